@@ -1,0 +1,4 @@
+pub mod Arrivals
+pub mod Demand
+pub mod Frame
+pub mod Tasks

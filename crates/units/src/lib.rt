@@ -1,0 +1,1 @@
+// Ticks, firings and tokens.
