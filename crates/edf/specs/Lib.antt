@@ -1,4 +1,5 @@
 pub mod Arrivals
 pub mod Demand
+pub mod Bounds
 pub mod Frame
 pub mod Tasks

@@ -1,5 +1,5 @@
--- 01, Bounds: every number that document 01 allows a field, a count or a question, written once.
--- 01, K and the length asked for, the frame: "ticks" and "firings" below say which count each bound belongs to.
+-- 01, Bounds: the largest number of each kind, written once. "Ticks", "Firings" and "Tokens" say which count a bound
+-- belongs to.
 use Prim.Native.Nat.{ℕ}
 
 -- A sheet holds 1 to 8 graphs, a graph 1 to 32 actors and 0 to 64 channels.
@@ -35,3 +35,10 @@ max-rate = 4096
 -- Tokens: a channel starts with 0 to 65,535.
 abbrev pub max-tokens : ℕ
 max-tokens = 65535
+
+-- What the engine on one graph takes: wider than a sheet, for graphs that are judged but not drawn on one.
+abbrev pub engine-actors : ℕ
+engine-actors = 128
+
+abbrev pub engine-channels : ℕ
+engine-channels = 256
