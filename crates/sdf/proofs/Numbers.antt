@@ -1,12 +1,11 @@
 -- Laws on numbers that the library lacks or states under a truncation.
-use mathlib.Core.Path.{_≡_, _∙_}
+use mathlib.Core.Path.{_≡_, refl}
 use mathlib.Core.Bool.{Bool, true, false}
-use mathlib.Core.Logic.{_⊎_, inl, inr, _≢_}
-use Prim.Native.Nat.{ℕ, _*_, _-_, _<_, _≤_}
-use native.Mathlib.Nat.{mul-comm, mul-sub}
+use mathlib.Core.Logic.{_⊎_, inl, inr, ⊎-elim, _≢_}
+use Prim.Native.Nat.{ℕ, _*_, _-_, _/_, _<_, _≤_}
+use native.Mathlib.Nat.{mul-comm, mul-sub, eq-zero-or-pos, div-zero, div-mul-le-self, le-div-iff-mul-le, le-refl, le-trans}
 use lib.Dec.{ltb, eqb}
 use borrow.Author.Tests.{ltb-true, ltb-false, eqb-true, eqb-false}
-use mathlib.Core.Path.{refl}
 
 pub lt-or-ge : (a b : ℕ) → (a < b) ⊎ (b ≤ a)
 lt-or-ge a b = go (ltb a b) refl
@@ -24,3 +23,10 @@ eq-or-ne a b = go (eqb a b) refl
 
 pub sub-mul : (a b k : ℕ) → (a - b) * k ≡ a * k - b * k
 sub-mul a b k = rw (mul-comm (a - b) k, mul-sub k a b, mul-comm k a, mul-comm k b)
+
+-- A larger number has no smaller quotient.
+pub div-mono : (T : ℕ) {a b : ℕ} → a ≤ b → a / T ≤ b / T
+div-mono T {a} {b} h = ⊎-elim
+    (λ (z : T ≡ 0). simp (z, div-zero) (le-refl 0))
+    (λ p. le-div-iff-mul-le {x = a / T} {y = b} p .1 (le-trans (div-mul-le-self a T) h))
+    (eq-zero-or-pos T)

@@ -2,7 +2,7 @@
 use mathlib.Core.Path.{_≡_, refl, ap, ap₂}
 use mathlib.Core.Logic.{⊎-elim}
 use Prim.Native.Nat.{ℕ, zero, suc, _+_, _*_, _<_, _≤_}
-use native.Mathlib.Nat.{le-refl, add-le-add, lt-suc-self, le-step, eq-or-lt-of-le, le-of-suc-le-suc}
+use native.Mathlib.Nat.{le-refl, le-trans, le-of-eq, add-le-add, lt-suc-self, le-step, eq-or-lt-of-le, le-of-suc-le-suc}
 use native.Mathlib.Omega.{arith}
 use Rattle.sdf.specs.Sum.{sumTo}
 
@@ -23,6 +23,10 @@ pub sum-add : (f h : ℕ → ℕ) (n : ℕ) → sumTo (λ i. f i + h i) n ≡ su
 unfolding sumTo
 sum-add f h zero = refl
 sum-add f h (suc n) = omega (arith, sum-add f h n)
+
+-- Terms that are at most the sum of two others.
+pub sum-mono-add : (f g h : ℕ → ℕ) (n : ℕ) → ((i : ℕ) → i < n → f i ≤ g i + h i) → sumTo f n ≤ sumTo g n + sumTo h n
+sum-mono-add f g h n e = le-trans (sum-mono f (λ i. g i + h i) n e) (le-of-eq (sum-add g h n))
 
 -- A common factor.
 pub sum-scale : (k : ℕ) (f : ℕ → ℕ) (n : ℕ) → sumTo (λ i. k * f i) n ≡ k * sumTo f n
