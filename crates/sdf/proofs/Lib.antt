@@ -1,7 +1,11 @@
 pub mod Numbers
 pub mod Sum
+pub mod Settle
 pub mod Allowed
 pub mod Order
 pub mod Trial
+pub mod Reach
+pub mod Balance
+pub mod Skip
 pub mod Fewest
 pub mod Rest

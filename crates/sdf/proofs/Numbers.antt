@@ -7,7 +7,7 @@ use native.Mathlib.Nat.{mul-comm, mul-sub, eq-zero-or-pos, div-zero, div-mul-le-
 use lib.Dec.{ltb, eqb}
 use borrow.Author.Tests.{ltb-true, ltb-false, eqb-true, eqb-false, eq-eqb, ne-eqb}
 
-pub lt-or-ge : (a b : ℕ) → (a < b) ⊎ (b ≤ a)
+unfoldable pub lt-or-ge : (a b : ℕ) → (a < b) ⊎ (b ≤ a)
 lt-or-ge a b = go (ltb a b) refl
   where
     go : (t : Bool) → ltb a b ≡ t → (a < b) ⊎ (b ≤ a)
