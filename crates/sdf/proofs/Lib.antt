@@ -9,3 +9,4 @@ pub mod Balance
 pub mod Skip
 pub mod Fewest
 pub mod Rest
+pub mod Decide

@@ -14,7 +14,7 @@ lt-or-ge a b = go (ltb a b) refl
     go true e = inl (ltb-true a b e)
     go false e = inr (ltb-false a b e)
 
-pub eq-or-ne : (a b : ℕ) → (a ≡ b) ⊎ (a ≢ b)
+unfoldable pub eq-or-ne : (a b : ℕ) → (a ≡ b) ⊎ (a ≢ b)
 eq-or-ne a b = go (eqb a b) refl
   where
     go : (t : Bool) → eqb a b ≡ t → (a ≡ b) ⊎ (a ≢ b)
