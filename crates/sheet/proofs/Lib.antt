@@ -1,0 +1,9 @@
+pub mod GraphLayout
+pub mod Walk
+pub mod Fields
+pub mod Forms
+pub mod Filling
+pub mod Unpacking
+pub mod Ranges
+pub mod Packing
+pub mod Table

@@ -1,0 +1,93 @@
+// From the byte string to the unpacked form.
+ghost use mathlib.Core.Path.{_≡_};
+ghost use mathlib.Core.Bool.{true};
+ghost use mathlib.Core.List.{_++_};
+ghost use Prim.Native.Nat.{_≤_};
+ghost use lib.ListN.{length, drop};
+ghost use Rattle.sheet.specs.declared.Answer.the-variants.{On};
+ghost use Rattle.sheet.specs.Layout.{in-bytes, in-numbers};
+ghost use Rattle.sheet.specs.Answer.{filled};
+ghost use Rattle.sheet.specs.Fields.{numbers};
+ghost use Rattle.sheet.specs.Check.{sized, stretch, first-walk};
+ghost use Rattle.sheet.specs.Forms.{layout-of, graphs-numbers, unpacked, unpack-answer};
+use super::Answer;
+use super::Refusal;
+use super::Written;
+use super::check::number;
+use super::layout::bytes_of;
+use super::layout::field;
+use super::layout::numbers_of;
+
+// The graph at the start of its stretch of bytes, into the first places of the list.
+fn graph(s: &[u8], list: &mut [u32])
+    requires { ⌜ (sized (now s) ≡ true) × (stretch in-bytes (now s) ≤ length (now s)) × (stretch in-numbers (now s) ≤ length (now list)) ⌝ }
+    ensures { λ _. ⌜ now (list .exit) ≡ numbers (layout-of (now (s .entry))) (now (s .entry)) ++ drop (stretch in-numbers (now (s .entry))) (now (list .entry)) ⌝ }
+{
+    let actors = s[0] as u64;
+    let fields = numbers_of(s[0] as usize, s[1] as usize);
+    let mut i = 0;
+    let mut at = 0;
+    while i < fields {
+        let f = field(actors, i);
+        let width = f.width;
+        list[i] = number(&s[at..], width);
+        at += width;
+        i += 1;
+    }
+}
+
+// How many numbers the n graphs of s have.
+fn count(s: &[u8], n: u64) -> usize
+    requires { ⌜ first-walk in-bytes n 0 (now s) ≡ On ⌝ }
+    ensures { λ r. ⌜ r ≡ length (graphs-numbers n (now (s .entry))) ⌝ }
+{
+    let mut k = 0;
+    let mut at = 0;
+    let mut sum = 0;
+    while k < n {
+        let actors = s[at] as usize;
+        let channels = s[at + 1] as usize;
+        sum += numbers_of(actors, channels);
+        at += bytes_of(actors, channels);
+        k += 1;
+    }
+    sum
+}
+
+// The n graphs of s, one after the other.
+fn graphs(s: &[u8], n: u64, list: &mut [u32])
+    requires { ⌜ (first-walk in-bytes n 0 (now s) ≡ On) × (length (graphs-numbers n (now s)) ≤ length (now list)) ⌝ }
+    ensures { λ _. ⌜ now (list .exit) ≡ graphs-numbers n (now (s .entry)) ++ drop (length (graphs-numbers n (now (s .entry)))) (now (list .entry)) ⌝ }
+{
+    let mut k = 0;
+    let mut at = 0;
+    let mut out = 0;
+    while k < n {
+        graph(&s[at..], &mut list[out..]);
+        let actors = s[at] as usize;
+        let channels = s[at + 1] as usize;
+        out += numbers_of(actors, channels);
+        at += bytes_of(actors, channels);
+        k += 1;
+    }
+}
+
+// Answers 1 to 5 and 14; without a refusal the unpacked form stands in the first places of the list.
+pub fn sheet(s: &[u8], list: &mut [u32]) -> Written
+    ensures answer { λ r. ⌜ r ≡ unpack-answer (now (s .entry)) (length (now (list .entry))) ⌝ }
+    ensures memory { λ r. ⌜ now (list .exit) ≡ filled r (unpacked (now (s .entry))) (now (list .entry)) ⌝ }
+{
+    let checked = super::check::sheet(s);
+    match checked {
+        Answer::No(r) => return Written::Refused(r),
+        Answer::On => {}
+    }
+    let n = s[3] as u64;
+    let all = 1 + count(&s[4..], n);
+    if list.len() < all {
+        return Written::Refused(Refusal::Room);
+    }
+    list[0] = n as u32;
+    graphs(&s[4..], n, &mut list[1..]);
+    Written::Wrote(all)
+}
