@@ -1,0 +1,60 @@
+-- `factor` gives the least factor: the loop goes up from 1 and keeps what k times the tokens leave.
+use Prim.Native.Nat.{_-_}
+use native.Mathlib.Omega.{arith}
+use Rattle.graph.proofs.Growth.{Factoring, factoring-start, factoring-turn, factoring-below, factoring-end}
+use borrow.Author.Needs.{needs}
+use Rattle.graph.proofs.repetition.factor.Statement.{statement}
+use Rattle.graph.proofs.repetition.factor.Tie as tie
+
+abbrev Inv-loop : tie.InvT-loop
+Inv-loop m c step rest₀ k₀ rest k = Factoring m c k rest
+
+abbrev μ-loop : tie.MeasureT-loop
+μ-loop m c step rest₀ k₀ rest k = c - k
+
+count-requires : tie.Need-count-requires Inv-loop μ-loop
+count-requires c κs = search needs
+
+count-requires-2 : tie.Need-count-requires-2 Inv-loop μ-loop
+count-requires-2 c κs = search needs
+
+rem-step : tie.Need-rem-step Inv-loop μ-loop
+rem-step c = search needs
+
+loop-holds : tie.Need-loop-holds Inv-loop μ-loop
+loop-holds c = factoring-start _ _ (search needs)
+
+add-rest : tie.Need-add-rest Inv-loop μ-loop
+add-rest c = omega (arith, factoring-below (c .before .loop .inv))
+
+rem-rest : tie.Need-rem-rest Inv-loop μ-loop
+rem-rest c = search needs
+
+add-k : tie.Need-add-k Inv-loop μ-loop
+add-k c = omega (arith, factoring-turn (c .before .loop .inv) (c .loop-test .taken) .0)
+
+loop-less : tie.Need-loop-less Inv-loop μ-loop
+loop-less c = omega (arith, factoring-turn (c .before .loop .inv) (c .loop-test .taken) .0)
+
+loop-again : tie.Need-loop-again Inv-loop μ-loop
+loop-again c = factoring-turn (c .before .loop .inv) (c .loop-test .taken) .1
+
+returns : tie.Need-returns Inv-loop μ-loop
+returns c = rw (← c .before .before .before .count .ensures, ← c .before .before .count2 .ensures) (factoring-end (c .before .loop .inv) (c .loop-test .left))
+
+pub factor-spec : {M : Type 1} → statement M
+factor-spec =
+    tie.close
+    (tie.spec
+    Inv-loop
+    μ-loop
+    count-requires
+    count-requires-2
+    rem-step
+    loop-holds
+    add-rest
+    rem-rest
+    add-k
+    loop-less
+    loop-again
+    returns)

@@ -1,0 +1,19 @@
+-- `moved` gives the product of the firings and the rate.
+use mathlib.Core.Path.{ap, _∙_}
+use Prim.Native.Nat.{ℕ, _*_}
+use Rattle.graph.proofs.Growth.{moved-fits}
+use borrow.Author.Needs.{needs}
+use Rattle.graph.proofs.repetition.moved.Statement.{statement}
+use Rattle.graph.proofs.repetition.moved.Tie as tie
+
+of-requires : tie.Need-of-requires
+of-requires c κs = search needs
+
+tokens-requires : tie.Need-tokens-requires
+tokens-requires c κs = moved-fits (search needs) (search needs)
+
+returns : tie.Need-returns
+returns c = c .tokens .ensures ∙ ap (λ (n : ℕ). n * c .before .before .args .rate .n) (c .before .of .ensures)
+
+pub moved-spec : {M : Type 1} → statement M
+moved-spec = tie.close (tie.spec of-requires tokens-requires returns)

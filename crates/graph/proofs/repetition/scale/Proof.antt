@@ -1,0 +1,80 @@
+-- `scale` multiplies every number, or shows one that would pass the bound.
+use mathlib.Core.Path.{_≡_, subst}
+use Prim.Native.Nat.{ℕ, _*_, _-_, _<_, _≤_}
+use native.Mathlib.Nat.{le-refl}
+use native.Mathlib.Omega.{arith}
+use lib.ListN.{length}
+use Rattle.units.specs.Bounds.{max-repetition}
+use Rattle.graph.proofs.Growth.{moved-fits, Scaling, scaling-start, scaling-turn}
+use borrow.Author.Needs.{needs}
+use Rattle.graph.proofs.repetition.scale.Statement.{statement}
+use Rattle.graph.proofs.repetition.scale.Tie as tie
+
+abbrev Inv-loop : tie.InvT-loop
+Inv-loop actors k q₀ i₀ q i = (i ≤ actors) × (length q ≡ length q₀) × Scaling k i q₀ q
+
+abbrev μ-loop : tie.MeasureT-loop
+μ-loop actors k q₀ i₀ q i = actors - i
+
+loop-holds : tie.Need-loop-holds Inv-loop μ-loop
+loop-holds c = (search needs, search needs, scaling-start _ _)
+
+mul-n : tie.Need-mul-n Inv-loop μ-loop
+mul-n c = search needs
+
+slice-read-n : tie.Need-slice-read-n Inv-loop μ-loop
+slice-read-n c = search needs
+
+mul-n-2 : tie.Need-mul-n-2 Inv-loop μ-loop
+mul-n-2 c =
+    let s = c .before .before .loop in
+    record { fits = moved-fits (omega (arith, s .inv .2 .rest (s .i) (le-refl (s .i)), c .before .before .before .pre .2 (s .i) (c .before .loop-test .taken))) (search needs) }
+
+same-length : tie.Need-same-length Inv-loop μ-loop
+same-length c = search needs
+
+returns : tie.Need-returns Inv-loop μ-loop
+returns c =
+    let s = c .before .before .before .loop in
+    (s .i, c .before .before .loop-test .taken, subst (λ (n : ℕ). max-repetition < n * c .before .before .before .before .args .k) (s .inv .2 .rest (s .i) (le-refl (s .i))) (c .if1 .taken))
+
+mul-q : tie.Need-mul-q Inv-loop μ-loop
+mul-q c = search needs
+
+slice-write-q : tie.Need-slice-write-q Inv-loop μ-loop
+slice-write-q c = search needs
+
+add-i : tie.Need-add-i Inv-loop μ-loop
+add-i c = search needs
+
+loop-less : tie.Need-loop-less Inv-loop μ-loop
+loop-less c = search needs
+
+loop-again : tie.Need-loop-again Inv-loop μ-loop
+loop-again c = (search needs, search needs, scaling-turn (c .before .before .before .loop .inv .2) (search needs) (c .if1 .left))
+
+same-length-2 : tie.Need-same-length-2 Inv-loop μ-loop
+same-length-2 c = search needs
+
+returns-2 : tie.Need-returns-2 Inv-loop μ-loop
+returns-2 c = λ v l. c .before .loop .inv .2 .done v (omega arith)
+
+pub scale-spec : {M : Type 1} → statement M
+scale-spec =
+    tie.close
+    (tie.spec
+    Inv-loop
+    μ-loop
+    loop-holds
+    mul-n
+    slice-read-n
+    mul-n-2
+    same-length
+    returns
+    mul-q
+    slice-write-q
+    add-i
+    loop-less
+    loop-again
+    same-length-2
+    returns-2)

@@ -1,0 +1,7 @@
+pub mod Flat
+pub mod Decides
+pub mod Reach
+pub mod Read
+pub mod Repetition
+pub mod Rest
+pub mod Skip

@@ -1,0 +1,165 @@
+// 01, answer 8: the repetition numbers, grown along the channels from the input. Each actor that gets a number makes all numbers
+// so far the least multiples that leave its own whole; so every balanced vector is a multiple of them, and no number ever
+// has to be corrected.
+ghost use mathlib.Core.Path.{_≡_};
+ghost use Prim.Native.Nat.{ℕ, _*_, _/_, _<_, _≤_};
+ghost use lib.ListN.{length};
+ghost use Rattle.units.specs.Bounds.{max-rate, max-repetition};
+ghost use Rattle.sdf.specs.Graph.{Reached};
+ghost use Rattle.sdf.specs.Balance.{AtMost};
+ghost use Rattle.graph.specs.Flat.{graph-of, vector, Drawn};
+ghost use Rattle.graph.specs.Decides.{Decides};
+ghost use Rattle.graph.specs.Repetition.{Numbered, LeastFactor, Scale-answer, Grown, Follows, Grows, Equal, Repetition-answer};
+use super::channel::Channel;
+use super::reach::clear;
+use units::Firings;
+use units::Tokens;
+
+// What an attempt to give numbers comes to: none to give, some given, or one past the bound.
+enum Growth {
+    Still,
+    More,
+    Past,
+}
+
+// What so many firings move on a channel of this rate.
+fn moved(firings: u64, rate: Tokens) -> Tokens
+    requires { ⌜ (firings ≤ max-repetition) × (rate .n ≤ max-rate) ⌝ }
+    ensures { λ r. ⌜ r .n ≡ firings * rate .n ⌝ }
+{
+    Firings::of(firings).tokens(rate)
+}
+
+// The least k for which `consume` divides k × `tokens`.
+fn factor(tokens: Tokens, consume: Tokens) -> u64
+    requires { ⌜ (0 < consume .n) × (consume .n ≤ max-rate) ⌝ }
+    ensures { λ r. ⌜ LeastFactor (tokens .n) (consume .n) r ⌝ }
+{
+    let m = tokens.count();
+    let c = consume.count();
+    let step = m % c;
+    let mut rest = step;
+    let mut k = 1;
+    while rest != 0 {
+        rest = (rest + step) % c;
+        k += 1;
+    }
+    k
+}
+
+// All numbers k times as large, or false where one would pass the bound.
+fn scale(actors: usize, k: u64, q: &mut [u64]) -> bool
+    requires { ⌜ (actors ≤ length (now q)) × (k ≤ max-rate) × ((v : ℕ) → v < actors → vector (now q) v ≤ max-repetition) ⌝ }
+    ensures { λ r. ⌜ Scale-answer actors k r (now (q .entry)) (now (q .exit)) ⌝ }
+{
+    let mut i = 0;
+    while i < actors {
+        let n = q[i] * k;
+        if Firings::MAX_REPETITION < n {
+            return false;
+        }
+        q[i] = n;
+        i += 1;
+    }
+    true
+}
+
+// Channel c: where its tail has a number and its head none, the head gets one.
+fn extend(
+    actors: usize,
+    input: usize,
+    output: usize,
+    channels: &[u32],
+    c: usize,
+    q: &mut [u64],
+) -> Growth
+    requires { ⌜ (Drawn (graph-of actors input output (now channels))) × (actors ≤ length (now q)) × Grown (graph-of actors input output (now channels)) (vector (now q)) × (c < length (now channels) / 5) ⌝ }
+    ensures { λ r. ⌜ Grows (graph-of actors input output (now (channels .entry))) (Follows (graph-of actors input output (now (channels .entry))) (now (q .entry)) c) r (now (q .entry)) (now (q .exit)) ⌝ }
+{
+    let e = Channel::at(actors, input, output, channels, c);
+    let tail = e.tail;
+    let head = e.head;
+    if q[tail] == 0 {
+        return Growth::Still;
+    }
+    if q[head] != 0 {
+        return Growth::Still;
+    }
+    let k = factor(moved(q[tail], e.produce), e.consume);
+    if !scale(actors, k, q) {
+        return Growth::Past;
+    }
+    let n = moved(q[tail], e.produce).firings(e.consume).count();
+    if Firings::MAX_REPETITION < n {
+        return Growth::Past;
+    }
+    q[head] = n;
+    Growth::More
+}
+
+// One pass over the channels.
+fn pass(actors: usize, input: usize, output: usize, channels: &[u32], q: &mut [u64]) -> Growth
+    requires { ⌜ (Drawn (graph-of actors input output (now channels))) × (actors ≤ length (now q)) × Grown (graph-of actors input output (now channels)) (vector (now q)) ⌝ }
+    ensures { λ r. ⌜ Grows (graph-of actors input output (now (channels .entry))) (Numbered (graph-of actors input output (now (channels .entry))) (now (q .entry))) r (now (q .entry)) (now (q .exit)) ⌝ }
+{
+    let m = channels.len() / 5;
+    let mut more = false;
+    let mut c = 0;
+    while c < m {
+        let growth = extend(actors, input, output, channels, c, q);
+        match growth {
+            Growth::Past => return Growth::Past,
+            Growth::More => more = true,
+            Growth::Still => {}
+        }
+        c += 1;
+    }
+    if more {
+        return Growth::More;
+    }
+    Growth::Still
+}
+
+// 01, Balanced: on every channel tail's number × produce = head's number × consume.
+fn equal(actors: usize, input: usize, output: usize, channels: &[u32], q: &[u64]) -> bool
+    requires { ⌜ (Drawn (graph-of actors input output (now channels))) × (actors ≤ length (now q)) × AtMost (graph-of actors input output (now channels)) (vector (now q)) (λ _. max-repetition) ⌝ }
+    ensures { λ r. ⌜ Decides r (Equal (graph-of actors input output (now (channels .entry))) (vector (now (q .entry)))) ⌝ }
+{
+    let m = channels.len() / 5;
+    let mut c = 0;
+    while c < m {
+        let e = Channel::at(actors, input, output, channels, c);
+        let tail = e.tail;
+        let head = e.head;
+        let put = moved(q[tail], e.produce).count();
+        let taken = moved(q[head], e.consume).count();
+        if put != taken {
+            return false;
+        }
+        c += 1;
+    }
+    true
+}
+
+pub fn repetition(
+    actors: usize,
+    input: usize,
+    output: usize,
+    channels: &[u32],
+    q: &mut [u64],
+) -> bool
+    requires { ⌜ (Drawn (graph-of actors input output (now channels))) × (actors ≤ length (now q)) × Reached (graph-of actors input output (now channels)) ⌝ }
+    ensures { λ r. ⌜ Repetition-answer (graph-of actors input output (now (channels .entry))) r (now (q .exit)) ⌝ }
+{
+    clear(actors, q);
+    q[input] = 1;
+    loop {
+        let growth = pass(actors, input, output, channels, q);
+        match growth {
+            Growth::Past => return false,
+            Growth::More => {}
+            Growth::Still => break,
+        }
+    }
+    equal(actors, input, output, channels, q)
+}
