@@ -4,4 +4,6 @@ pub mod Vectors
 pub mod Places
 pub mod Marks
 pub mod Growth
+pub mod Firing
+pub mod Run
 pub mod Lowering

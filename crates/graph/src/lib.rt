@@ -4,5 +4,6 @@ mod flat; // the flat list of channels
 mod channel; // one channel of it
 pub mod reach; // 01, answer 7
 pub mod repetition; // 01, answers 8 and 9
+pub mod trial; // 01, answer 10
 pub mod rest; // 01, answer 11
 pub mod skip; // skips and fewest firings
