@@ -1,0 +1,4 @@
+pub mod Lent
+pub mod Answers
+pub mod Written
+pub mod Rises
