@@ -6,3 +6,4 @@ pub mod Repetition
 pub mod Trial
 pub mod Rest
 pub mod Skip
+pub mod Judged
