@@ -10,17 +10,6 @@ use Rattle.sdf.specs.Graph.{Graph}
 use Rattle.sdf.specs.Order.{State, initial, Enabled, removed, added, after, Legal, firings}
 use Rattle.sdf.specs.Sum.{sumTo}
 use Rattle.graph.specs.Flat.{vector}
-use Rattle.graph.specs.declared.trial.Channel.{Channel}
-
--- The channel that the code holds.
-abbrev pub drawn : Channel → sdf.Channel
-drawn e = record {
-  tail = e .tail;
-  head = e .head;
-  produce = e .produce .n;
-  consume = e .consume .n;
-  tokens = e .tokens .n;
-}
 
 -- The greatest number up to `most` of which P holds.
 pub record Greatest (P : ℕ → Type 0) (most k : ℕ) : Type 0 where

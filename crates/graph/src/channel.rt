@@ -1,10 +1,12 @@
 // A channel as the engine's functions read it from the flat list.
+ghost use mathlib.Core.Path.{_≡_};
 ghost use Prim.Native.Nat.{_/_, _<_};
 ghost use lib.ListN.{length};
-ghost use Rattle.graph.specs.Flat.{graph-of, Drawn};
-ghost use Rattle.graph.specs.Read.{Read, seen};
+ghost use Rattle.graph.specs.Flat.{channel-at};
+ghost use Rattle.graph.specs.Read.{seen};
 use units::Tokens;
 
+// In document 01's order.
 pub struct Channel {
     pub tail: usize,
     pub head: usize,
@@ -14,9 +16,9 @@ pub struct Channel {
 }
 
 impl Channel {
-    pub fn at(actors: usize, input: usize, output: usize, channels: &[u32], c: usize) -> Self
-        requires { ⌜ (Drawn (graph-of actors input output (now channels))) × (c < length (now channels) / 5) ⌝ }
-        ensures { λ r. ⌜ Read (graph-of actors input output (now (channels .entry))) c (seen r) ⌝ }
+    pub fn at(channels: &[u32], c: usize) -> Self
+        requires { ⌜ c < length (now channels) / 5 ⌝ }
+        ensures { λ r. ⌜ seen r ≡ channel-at (now (channels .entry)) c ⌝ }
     {
         let b = 5 * c;
         Self {

@@ -8,6 +8,7 @@ ghost use Rattle.units.specs.Bounds.{max-rate, max-repetition};
 ghost use Rattle.sdf.specs.Graph.{Reached};
 ghost use Rattle.sdf.specs.Balance.{AtMost};
 ghost use Rattle.graph.specs.Flat.{graph-of, vector, Drawn};
+ghost use Rattle.graph.specs.Read.{Read, seen};
 ghost use Rattle.graph.specs.Decides.{Decides};
 ghost use Rattle.graph.specs.Repetition.{Numbered, LeastFactor, Scale-answer, Grown, Follows, Grows, Equal, Repetition-answer};
 use super::channel::Channel;
@@ -20,6 +21,14 @@ enum Growth {
     Still,
     More,
     Past,
+}
+
+// Channel c of the graph.
+fn read(actors: usize, input: usize, output: usize, channels: &[u32], c: usize) -> Channel
+    requires { ⌜ (Drawn (graph-of actors input output (now channels))) × (c < length (now channels) / 5) ⌝ }
+    ensures { λ r. ⌜ Read (graph-of actors input output (now (channels .entry))) c (seen r) ⌝ }
+{
+    Channel::at(channels, c)
 }
 
 // What so many firings move on a channel of this rate.
@@ -76,7 +85,7 @@ fn extend(
     requires { ⌜ (Drawn (graph-of actors input output (now channels))) × (actors ≤ length (now q)) × Grown (graph-of actors input output (now channels)) (vector (now q)) × (c < length (now channels) / 5) ⌝ }
     ensures { λ r. ⌜ Grows (graph-of actors input output (now (channels .entry))) (Follows (graph-of actors input output (now (channels .entry))) (now (q .entry)) c) r (now (q .entry)) (now (q .exit)) ⌝ }
 {
-    let e = Channel::at(actors, input, output, channels, c);
+    let e = read(actors, input, output, channels, c);
     let tail = e.tail;
     let head = e.head;
     if q[tail] == 0 {
@@ -128,7 +137,7 @@ fn equal(actors: usize, input: usize, output: usize, channels: &[u32], q: &[u64]
     let m = channels.len() / 5;
     let mut c = 0;
     while c < m {
-        let e = Channel::at(actors, input, output, channels, c);
+        let e = read(actors, input, output, channels, c);
         let tail = e.tail;
         let head = e.head;
         let put = moved(q[tail], e.produce).count();

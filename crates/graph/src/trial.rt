@@ -7,39 +7,18 @@ ghost use Rattle.units.specs.Bounds.{engine-actors, max-repetition};
 ghost use Rattle.sdf.specs.Order.{Lives};
 ghost use Rattle.graph.specs.Flat.{channel-at, graph-of, vector, Drawn};
 ghost use Rattle.graph.specs.Decides.{Decides};
+ghost use Rattle.graph.specs.Read.{seen};
 ghost use Rattle.graph.specs.Repetition.{Repeats};
-ghost use Rattle.graph.specs.Trial.{drawn, Greatest, Lets, Allows, Restores, Moved, Woken, Fireable, Fired, Visitable, Visited, Started};
+ghost use Rattle.graph.specs.Trial.{Greatest, Lets, Allows, Restores, Moved, Woken, Fireable, Fired, Visitable, Visited, Started};
+use super::channel::Channel;
 use units::Firings;
 use units::Tokens;
 
-// One channel, in document 01's order.
-struct Channel {
-    tail: usize,
-    head: usize,
-    produce: Tokens,
-    consume: Tokens,
-    tokens: Tokens,
-}
-
 impl Channel {
-    fn at(channels: &[u32], c: usize) -> Self
-        requires { ⌜ c < length (now channels) / 5 ⌝ }
-        ensures { λ r. ⌜ drawn r ≡ channel-at (now (channels .entry)) c ⌝ }
-    {
-        let b = 5 * c;
-        Self {
-            tail: channels[b] as usize,
-            head: channels[b + 1] as usize,
-            produce: Tokens::of(channels[b + 2] as u64),
-            consume: Tokens::of(channels[b + 3] as u64),
-            tokens: Tokens::of(channels[b + 4] as u64),
-        }
-    }
-
     // How often the channel, with so many tokens held, lets actor v fire in a row, at most `most` times.
     fn times(self, held: Tokens, v: usize, most: Firings) -> Firings
         requires { ⌜ 0 < self .consume .n ⌝ }
-        ensures { λ r. ⌜ Greatest (Lets (drawn self) (held .n) v) (most .n) (r .n) ⌝ }
+        ensures { λ r. ⌜ Greatest (Lets (seen self) (held .n) v) (most .n) (r .n) ⌝ }
     {
         if self.head != v {
             return most;
@@ -59,8 +38,8 @@ impl Channel {
 
     // What the channel holds after k firings of actor v. From v to v they put back what they take.
     fn moved(self, held: Tokens, v: usize, k: Firings) -> Tokens
-        requires { ⌜ Lets (drawn self) (held .n) v (k .n) × Restores (drawn self) × (held .n + k .n * self .produce .n < 2 ^ 64) ⌝ }
-        ensures { λ r. ⌜ Moved (drawn self) v (k .n) (held .n) (r .n) ⌝ }
+        requires { ⌜ Lets (seen self) (held .n) v (k .n) × Restores (seen self) × (held .n + k .n * self .produce .n < 2 ^ 64) ⌝ }
+        ensures { λ r. ⌜ Moved (seen self) v (k .n) (held .n) (r .n) ⌝ }
     {
         if self.tail == self.head {
             return held;
@@ -77,7 +56,7 @@ impl Channel {
     // Where the channel leads from actor v to another, that one is ready for a visit.
     fn wake(self, v: usize, ready: &mut [u64])
         requires { ⌜ self .head < length (now ready) ⌝ }
-        ensures { λ _. ⌜ Woken (drawn self) v (now (ready .entry)) (now (ready .exit)) ⌝ }
+        ensures { λ _. ⌜ Woken (seen self) v (now (ready .entry)) (now (ready .exit)) ⌝ }
     {
         let head = self.head;
         if head == v {

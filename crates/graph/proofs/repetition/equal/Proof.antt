@@ -26,7 +26,7 @@ start c = c .before .before .before
 abbrev graph : tie.At-loop Inv-loop μ-loop → Graph
 graph c = graph-of (start c .args .actors) (start c .args .input) (start c .args .output) (start c .args .channels .now)
 
-abbrev reading : tie.After-count2 Inv-loop μ-loop → tie.After-at Inv-loop μ-loop
+abbrev reading : tie.After-count2 Inv-loop μ-loop → tie.After-read Inv-loop μ-loop
 reading c = c .before .before .before .before .before .before
 
 abbrev turn : tie.After-count2 Inv-loop μ-loop → tie.At-loop Inv-loop μ-loop
@@ -34,7 +34,7 @@ turn c = reading c .before .before
 
 products : (c : tie.After-count2 Inv-loop μ-loop) → (c .before .before .before .count .result ≡ c .count2 .result) ↔ Even (graph (turn c)) (vector (start (turn c) .args .q .now)) (turn c .loop .c)
 products c =
-    let e = even (graph (turn c)) (turn c .loop .c) (seen (reading c .at .result)) (reading c .at .ensures .is) (vector (start (turn c) .args .q .now)) in
+    let e = even (graph (turn c)) (turn c .loop .c) (seen (reading c .read .result)) (reading c .read .ensures .is) (vector (start (turn c) .args .q .now)) in
     let put = c .before .before .before .count .ensures ∙ c .before .before .before .before .moved .ensures in
     let taken = c .count2 .ensures ∙ c .before .moved2 .ensures in
     (λ h. e .0 (sym put ∙ h ∙ taken), λ h. put ∙ e .1 h ∙ sym taken)
@@ -42,8 +42,8 @@ products c =
 loop-holds : tie.Need-loop-holds Inv-loop μ-loop
 loop-holds c = λ d l. omega arith
 
-at-requires : tie.Need-at-requires Inv-loop μ-loop
-at-requires c κs = search needs
+read-requires : tie.Need-read-requires Inv-loop μ-loop
+read-requires c κs = search needs
 
 mul-moved : tie.Need-mul-moved Inv-loop μ-loop
 mul-moved c = search needs
@@ -52,7 +52,7 @@ shared-slice-read-moved : tie.Need-shared-slice-read-moved Inv-loop μ-loop
 shared-slice-read-moved c = search needs
 
 moved-requires : tie.Need-moved-requires Inv-loop μ-loop
-moved-requires c κs = let a = c .before in (start (a .before .before) .pre .2 (a .at .result .tail) (a .at .ensures .tail), search needs)
+moved-requires c κs = let a = c .before in (start (a .before .before) .pre .2 (a .read .result .tail) (a .read .ensures .tail), search needs)
 
 count-requires : tie.Need-count-requires Inv-loop μ-loop
 count-requires c κs = search needs
@@ -64,7 +64,7 @@ shared-slice-read-moved-2 : tie.Need-shared-slice-read-moved-2 Inv-loop μ-loop
 shared-slice-read-moved-2 c = search needs
 
 moved-requires-2 : tie.Need-moved-requires-2 Inv-loop μ-loop
-moved-requires-2 c κs = let a = c .before .before .before .before in (start (a .before .before) .pre .2 (a .at .result .head) (a .at .ensures .head), search needs)
+moved-requires-2 c κs = let a = c .before .before .before .before in (start (a .before .before) .pre .2 (a .read .result .head) (a .read .ensures .head), search needs)
 
 count-requires-2 : tie.Need-count-requires-2 Inv-loop μ-loop
 count-requires-2 c κs = search needs
@@ -91,7 +91,7 @@ equal-spec =
     Inv-loop
     μ-loop
     loop-holds
-    at-requires
+    read-requires
     mul-moved
     shared-slice-read-moved
     moved-requires

@@ -14,22 +14,22 @@ use borrow.Author.Needs.{needs}
 use Rattle.graph.proofs.repetition.extend.Statement.{statement}
 use Rattle.graph.proofs.repetition.extend.Tie as tie
 
-abbrev start : tie.After-at → tie.Start
+abbrev start : tie.After-read → tie.Start
 start c = c .before .before .before
 
-abbrev graph : tie.After-at → Graph
+abbrev graph : tie.After-read → Graph
 graph c = graph-of (start c .args .actors) (start c .args .input) (start c .args .output) (start c .args .channels .now)
 
-abbrev before : tie.After-at → List ℕ
+abbrev before : tie.After-read → List ℕ
 before c = start c .args .q .now
 
-abbrev channel : tie.After-at → Channel
-channel c = seen (c .at .result)
+abbrev channel : tie.After-read → Channel
+channel c = seen (c .read .result)
 
-still : (c : tie.After-at) → (0 < vector (before c) (channel c .tail) → 0 < vector (before c) (channel c .head)) → Follows (graph c) (before c) (start c .args .c)
-still c f = follows (graph c) (start c .args .c) (channel c) (c .at .ensures .is) (before c) f
+still : (c : tie.After-read) → (0 < vector (before c) (channel c .tail) → 0 < vector (before c) (channel c .head)) → Follows (graph c) (before c) (start c .args .c)
+still c f = follows (graph c) (start c .args .c) (channel c) (c .read .ensures .is) (before c) f
 
-abbrev reading : tie.After-factor → tie.After-at
+abbrev reading : tie.After-factor → tie.After-read
 reading c = c .before .before .before .before .before .before .before
 
 extending : (c : tie.After-factor) → Extending (graph (reading c)) (start (reading c) .args .c) (channel (reading c)) (vector (before (reading c))) (c .factor .result)
@@ -38,7 +38,7 @@ extending c =
     record {
       sound = start a .pre .0 .sound;
       within = start a .pre .3;
-      read = a .at .ensures;
+      read = a .read .ensures;
       grown = start a .pre .2;
       given = search needs;
       missing = c .before .before .before .if2 .left;
@@ -60,8 +60,8 @@ scaled c = rw (not-false (c .before .before .before .scale .result) (c .if3 .lef
 number : (c : tie.After-count) → let e = channel (reading (factored (c .before .before .before .before .before .before .before))) in c .count .result ≡ vector (after (c .before .before .before .before .before .before .before)) (e .tail) * e .produce / e .consume
 number c = c .count .ensures ∙ c .before .firings .ensures ∙ ap (λ (m : ℕ). m / channel (reading (factored (c .before .before .before .before .before .before .before))) .consume) (c .before .before .moved2 .ensures)
 
-at-requires : tie.Need-at-requires
-at-requires c κs = search needs
+read-requires : tie.Need-read-requires
+read-requires c κs = search needs
 
 mul-if1 : tie.Need-mul-if1
 mul-if1 c = search needs
@@ -88,7 +88,7 @@ slice-read-moved : tie.Need-slice-read-moved
 slice-read-moved c = search needs
 
 moved-requires : tie.Need-moved-requires
-moved-requires c κs = let a = c .before .before .before .before .before in (start a .pre .2 .bound (a .at .result .tail) (a .at .ensures .tail), search needs)
+moved-requires c κs = let a = c .before .before .before .before .before in (start a .pre .2 .bound (a .read .result .tail) (a .read .ensures .tail), search needs)
 
 factor-requires : tie.Need-factor-requires
 factor-requires c κs = search needs
@@ -114,7 +114,7 @@ slice-read-moved-2 : tie.Need-slice-read-moved-2
 slice-read-moved-2 c = search needs
 
 moved-requires-2 : tie.Need-moved-requires-2
-moved-requires-2 c κs = let a = reading (factored (c .before .before .before .before)) in (scaled (c .before) (a .at .result .tail) (a .at .ensures .tail) .1, search needs)
+moved-requires-2 c κs = let a = reading (factored (c .before .before .before .before)) in (scaled (c .before) (a .read .result .tail) (a .read .ensures .tail) .1, search needs)
 
 firings-requires : tie.Need-firings-requires
 firings-requires c κs = search needs
@@ -144,7 +144,7 @@ pub extend-spec : {M : Type 1} → statement M
 extend-spec =
     tie.close
     (tie.spec
-    at-requires
+    read-requires
     mul-if1
     slice-read-if1
     returns

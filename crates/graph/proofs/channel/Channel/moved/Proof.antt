@@ -2,8 +2,8 @@
 use native.Mathlib.Omega.{arith}
 use borrow.Author.Needs.{needs}
 use Rattle.graph.proofs.Firing.{moved-own, moved-out, moved-in, moved-none}
-use Rattle.graph.proofs.trial.Channel.moved.Statement.{statement}
-use Rattle.graph.proofs.trial.Channel.moved.Tie as tie
+use Rattle.graph.proofs.channel.Channel.moved.Statement.{statement}
+use Rattle.graph.proofs.channel.Channel.moved.Tie as tie
 
 returns : tie.Need-returns
 returns c = moved-own (c .before .before .pre .1) (c .if1 .taken)

@@ -2,8 +2,8 @@
 use native.Mathlib.Omega.{arith}
 use borrow.Author.Needs.{needs}
 use Rattle.graph.proofs.Firing.{times-all, times-none, times-lets, times-most}
-use Rattle.graph.proofs.trial.Channel.times.Statement.{statement}
-use Rattle.graph.proofs.trial.Channel.times.Tie as tie
+use Rattle.graph.proofs.channel.Channel.times.Statement.{statement}
+use Rattle.graph.proofs.channel.Channel.times.Tie as tie
 
 returns-2 : tie.Need-returns-2
 returns-2 c = times-none (omega arith) (omega arith) (omega arith) (c .of .ensures)
