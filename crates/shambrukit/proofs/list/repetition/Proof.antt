@@ -1,0 +1,74 @@
+-- `list::repetition` meets its contract: the repetition numbers stand from place 32 of a row on.
+use borrow.Author.Needs.{needs}
+use native.Mathlib.Omega.{arith}
+use mathlib.Core.Path.{refl}
+use Rattle.shambrukit.specs.Lines.{refused, ready}
+use Rattle.shambrukit.proofs.Prepares.{ReadyHeld, refused-lines, ready-held}
+use Rattle.shambrukit.specs.Calls.{repetition-numbers}
+use Rattle.shambrukit.proofs.list.repetition.Statement.{statement}
+use Rattle.shambrukit.proofs.list.repetition.Tie as tie
+
+-- Past the lines 3 to 12 the graphs are ready.
+held : (c : tie.After-enum-told) → ReadyHeld (c .before .before .before .before .before .before .before .before .before .args .l .now) (c .before .before .before .before .list .last .1 .0) (c .before .before .before .before .list .last .1 .1 .0) (c .enum-told .given .0 .0 .n)
+held c = ready-held _ _ _ (c .before .before .before .before .list .ensures) (c .enum-told .given .1) (search needs) (search needs)
+
+slice-aggregate-list : tie.Need-slice-aggregate-list
+slice-aggregate-list c = search needs
+
+slice-aggregate-list-2 : tie.Need-slice-aggregate-list-2
+slice-aggregate-list-2 c = search needs
+
+list-requires : tie.Need-list-requires
+list-requires c κs = search needs
+
+enum-known-prepared : tie.Need-enum-known-prepared
+enum-known-prepared c = search needs
+
+enum-told : tie.Need-enum-told
+enum-told c = search needs
+
+shared-slice-read-room-of : tie.Need-shared-slice-read-room-of
+shared-slice-read-room-of c = held (c .before) .count-there
+
+cast-room-of : tie.Need-cast-room-of
+cast-room-of c = omega (arith, c .shared-slice-known2 .given 0)
+
+slice-aggregate-room-of : tie.Need-slice-aggregate-room-of
+slice-aggregate-room-of c = search needs
+
+slice-aggregate-room-of-2 : tie.Need-slice-aggregate-room-of-2
+slice-aggregate-room-of-2 c = search needs
+
+room-of-requires : tie.Need-room-of-requires
+room-of-requires c κs = let h = held (c .before .before .before .before) in ((h .js, h .stand), omega arith)
+
+returns : tie.Need-returns
+returns c = (refused _, refused-lines _ _ _ (c .before .before .before .before .before .list .ensures) (c .before .prepared .given .1), refl, refl)
+
+same-length : tie.Need-same-length
+same-length c = search needs
+
+returns-2 : tie.Need-returns-2
+returns-2 c =
+    let h = held (c .before .before .before .before .before .before .before) in
+    let F = c .before .before .before .before .before .before .before .enum-told .given .0 .0 .n in
+    let (answer, memory) = c .before .before .room-of .ensures repetition-numbers (λ j heads rows i row. row .repetition) (h .js) F (h .stand) in
+    (ready (h .js) F, h .lines, answer, memory)
+
+pub repetition-spec : {M : Type 1} → statement M
+repetition-spec =
+    tie.close
+    (tie.spec
+    slice-aggregate-list
+    slice-aggregate-list-2
+    list-requires
+    enum-known-prepared
+    enum-told
+    shared-slice-read-room-of
+    cast-room-of
+    slice-aggregate-room-of
+    slice-aggregate-room-of-2
+    room-of-requires
+    returns
+    same-length
+    returns-2)

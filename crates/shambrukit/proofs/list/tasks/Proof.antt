@@ -1,0 +1,73 @@
+-- `list::tasks` meets its contract.
+use borrow.Author.Needs.{needs}
+use native.Mathlib.Omega.{arith}
+use mathlib.Core.Path.{refl}
+use Rattle.shambrukit.specs.Lines.{refused, ready}
+use Rattle.shambrukit.proofs.Prepares.{ReadyHeld, refused-lines, ready-held}
+use Rattle.shambrukit.proofs.list.tasks.Statement.{statement}
+use Rattle.shambrukit.proofs.list.tasks.Tie as tie
+
+-- Past the lines 3 to 12 the graphs are ready.
+held : (c : tie.After-enum-told) → ReadyHeld (c .before .before .before .before .before .before .before .before .before .args .l .now) (c .before .before .before .before .list .last .1 .0) (c .before .before .before .before .list .last .1 .1 .0) (c .enum-told .given .0 .0 .n)
+held c = ready-held _ _ _ (c .before .before .before .before .list .ensures) (c .enum-told .given .1) (search needs) (search needs)
+
+slice-aggregate-list : tie.Need-slice-aggregate-list
+slice-aggregate-list c = search needs
+
+slice-aggregate-list-2 : tie.Need-slice-aggregate-list-2
+slice-aggregate-list-2 c = search needs
+
+list-requires : tie.Need-list-requires
+list-requires c κs = search needs
+
+enum-known-prepared : tie.Need-enum-known-prepared
+enum-known-prepared c = search needs
+
+enum-told : tie.Need-enum-told
+enum-told c = search needs
+
+shared-slice-read-tasks-of : tie.Need-shared-slice-read-tasks-of
+shared-slice-read-tasks-of c = held (c .before) .count-there
+
+cast-tasks-of : tie.Need-cast-tasks-of
+cast-tasks-of c = omega (arith, c .shared-slice-known2 .given 0)
+
+slice-aggregate-tasks-of : tie.Need-slice-aggregate-tasks-of
+slice-aggregate-tasks-of c = search needs
+
+slice-aggregate-tasks-of-2 : tie.Need-slice-aggregate-tasks-of-2
+slice-aggregate-tasks-of-2 c = search needs
+
+tasks-of-requires : tie.Need-tasks-of-requires
+tasks-of-requires c κs = let h = held (c .before .before .before .before) in (h .js, h .stand)
+
+returns : tie.Need-returns
+returns c = (refused _, refused-lines _ _ _ (c .before .before .before .before .before .list .ensures) (c .before .prepared .given .1), refl, refl)
+
+same-length : tie.Need-same-length
+same-length c = search needs
+
+returns-2 : tie.Need-returns-2
+returns-2 c =
+    let h = held (c .before .before .before .before .before .before .before) in
+    let F = c .before .before .before .before .before .before .before .enum-told .given .0 .0 .n in
+    let (answer, memory) = c .before .before .tasks-of .ensures (h .js) F (h .stand) in
+    (ready (h .js) F, h .lines, answer, memory)
+
+pub tasks-spec : {M : Type 1} → statement M
+tasks-spec =
+    tie.close
+    (tie.spec
+    slice-aggregate-list
+    slice-aggregate-list-2
+    list-requires
+    enum-known-prepared
+    enum-told
+    shared-slice-read-tasks-of
+    cast-tasks-of
+    slice-aggregate-tasks-of
+    slice-aggregate-tasks-of-2
+    tasks-of-requires
+    returns
+    same-length
+    returns-2)
