@@ -1,5 +1,5 @@
 -- 01, What the contracts settle: any two results that the answer table allows for one input are equal.
-use mathlib.Core.Path.{_≡_, sym, ap, _∙_}
+use mathlib.Core.Path.{_≡_, sym, ap, ap₂, _∙_}
 use mathlib.Core.List.{List, [], _∷_, _++_}
 use Prim.Native.Nat.{ℕ, zero, suc, _<_}
 use native.Mathlib.Omega.{arith}
@@ -15,14 +15,18 @@ use Rattle.graph.specs.Flat.{vector}
 use Rattle.sheet.specs.declared.Answer.{Answer}
 use Rattle.sheet.specs.declared.Answer.the-variants.{On, No}
 use Rattle.sheet.specs.declared.Refusal.{Refusal}
+use Rattle.sheet.specs.declared.Written.{Written}
+use Rattle.sheet.specs.Answer.{filled}
 use Rattle.sheet.specs.Layout.{in-numbers}
 use Rattle.sheet.specs.Check.{stretch, check-sheet, check-list}
 use Rattle.sheet.specs.Forms.{unpacked}
+use Rattle.shambrukit.specs.declared.Told.{Told}
 use Rattle.shambrukit.specs.declared.Verdict.{Verdict}
 use Rattle.shambrukit.specs.Graphs.{Judged, drawn, judged, RepetitionNumbers, SkipNumbers, works-of}
 use Rattle.shambrukit.specs.Lines.{Outcome, refused, ready, Unless, fail, meet, With, given, Checked, graph-lines, frame-line, second-walk, list-lines, sheet-lines}
-use Rattle.shambrukit.specs.Verdict.{Judgement, overload, late, accepted, VerdictOf, SheetVerdict, ListVerdict}
-use Rattle.shambrukit.specs.Calls.{SheetTold, ListTold}
+use Rattle.shambrukit.specs.Verdict.{Judgement, overload, late, accepted, VerdictOf, SheetVerdict, ListVerdict, rowOf}
+use Rattle.shambrukit.specs.Calls.{SheetTold, ListTold, SheetFills, ListFills, toldOf, writtenOf}
+use Rattle.shambrukit.specs.C.{SheetRow, ListRow, SheetSays, ListSays, SheetLends, ListLends}
 
 -- Lists of one length that agree at each place are equal.
 same-numbers : (n : ℕ) {x y : List ℕ} → length x ≡ n → length y ≡ n → ((v : ℕ) → v < n → vector x v ≡ vector y v) → x ≡ y
@@ -128,11 +132,53 @@ unfolding ListVerdict
 list-verdict-one l = answer-one VerdictOf (λ o p. lines-one l) (λ o. verdict-of-one o)
 
 module _ {A : Type 0} (call : Outcome → A) where
-  -- Of a byte string, a call that goes by the outcome has at most one answer: demand, fewest firings, lists of numbers, the whole
-  -- sheet, and what lent memory holds in the end.
+  -- Of a byte string, a call that goes by the outcome has at most one answer: demand and fewest firings.
   pub calls-one : (s : List ℕ) {a b : A} → SheetTold s call a → SheetTold s call b → a ≡ b
   calls-one s = answer-one (λ o a. a ≡ call o) (λ o p. sheet-one s) (λ o e d. e ∙ sym d)
 
   -- So it has of a list.
   pub list-calls-one : (l : List ℕ) {a b : A} → ListTold l call a → ListTold l call b → a ≡ b
   list-calls-one l = answer-one (λ o a. a ≡ call o) (λ o p. lines-one l) (λ o e d. e ∙ sym d)
+
+-- Lines with one outcome: a call that fills lent memory has one answer and leaves one content.
+fill-one :
+    {lines : Outcome → Type 0} (call : Outcome → Written) (result : Outcome → List ℕ) (before : List ℕ) {w v : Written} {x y : List ℕ} →
+    ((o p : Outcome) → lines o → lines p → o ≡ p) → (o : Outcome) × lines o × (w ≡ call o) × (x ≡ filled w (result o) before) →
+    (o : Outcome) × lines o × (v ≡ call o) × (y ≡ filled v (result o) before) → (w ≡ v) × (x ≡ y)
+fill-one call result before {w} {v} one (o, h, e, m) (p, k, d, n) =
+    let same = one o p h k in
+    let answer : w ≡ v = e ∙ ap call same ∙ sym d in
+    (answer, m ∙ ap₂ (λ a b. filled a (result b) before) answer same ∙ sym n)
+
+module _ (call : Outcome → Written) (result : Outcome → List ℕ) (before : List ℕ) {w v : Written} {x y : List ℕ} where
+  -- Of a byte string, a call that fills lent memory has at most one answer and one final content.
+  pub fills-one : (s : List ℕ) → SheetFills s call result w before x → SheetFills s call result v before y → (w ≡ v) × (x ≡ y)
+  fills-one s = fill-one call result before (λ o p. sheet-one s)
+
+  -- So it has of a list.
+  pub list-fills-one : (l : List ℕ) → ListFills l call result w before x → ListFills l call result v before y → (w ≡ v) × (x ≡ y)
+  list-fills-one l = fill-one call result before (λ o p. lines-one l)
+
+-- So do the C entries: one row of numbers for a verdict, one for a question, one with one final content for lent memory.
+pub row-one : (s : List ℕ) {x y : List ℕ} → SheetRow s x → SheetRow s y → x ≡ y
+row-one s (v, a, e) (w, b, d) = e ∙ ap rowOf (verdict-one s a b) ∙ sym d
+
+pub list-row-one : (l : List ℕ) {x y : List ℕ} → ListRow l x → ListRow l y → x ≡ y
+list-row-one l (v, a, e) (w, b, d) = e ∙ ap rowOf (list-verdict-one l a b) ∙ sym d
+
+pub says-one : (s : List ℕ) (call : Outcome → Told) {x y : List ℕ} → SheetSays s call x → SheetSays s call y → x ≡ y
+says-one s call (v, a, e) (w, b, d) = e ∙ ap toldOf (calls-one call s a b) ∙ sym d
+
+pub list-says-one : (l : List ℕ) (call : Outcome → Told) {x y : List ℕ} → ListSays l call x → ListSays l call y → x ≡ y
+list-says-one l call (v, a, e) (w, b, d) = e ∙ ap toldOf (list-calls-one call l a b) ∙ sym d
+
+module _ (call : Outcome → Written) (result : Outcome → List ℕ) (before : List ℕ) {r t x y : List ℕ} where
+  pub lends-one : (s : List ℕ) → SheetLends s call result r before x → SheetLends s call result t before y → (r ≡ t) × (x ≡ y)
+  lends-one s (v, a, e) (w, b, d) =
+      let same = fills-one call result before s a b in
+      (e ∙ ap writtenOf (same .0) ∙ sym d, same .1)
+
+  pub list-lends-one : (l : List ℕ) → ListLends l call result r before x → ListLends l call result t before y → (r ≡ t) × (x ≡ y)
+  list-lends-one l (v, a, e) (w, b, d) =
+      let same = list-fills-one call result before l a b in
+      (e ∙ ap writtenOf (same .0) ∙ sym d, same .1)
