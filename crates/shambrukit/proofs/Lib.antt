@@ -12,4 +12,5 @@ pub mod Readying
 pub mod Held
 pub mod Answers
 pub mod Prepares
+pub mod Inverse
 pub mod Sheets

@@ -61,7 +61,8 @@ ranges-on zero k l h = refl
 ranges-on (suc n) k l h =
     rw (h 0 (omega arith)) (ranges-on n (suc k) (drop (stretch in-numbers l) l) (λ i m. h (suc i) (omega arith)))
 
-numbers-on : (l : List ℕ) (js : List Judged) (F : ℕ) → list-lines l (ready js F) → check-numbers l ≡ On
+-- A list without refusal passes answers 3 to 6.
+pub numbers-on : (l : List ℕ) (js : List Judged) (F : ℕ) → list-lines l (ready js F) → check-numbers l ≡ On
 unfolding list-lines check-numbers
 numbers-on l js F lines =
     let gives = list-gives l lines in
