@@ -18,6 +18,8 @@ use Rattle.sheet.specs.declared.Written.{Written}
 use Rattle.sheet.specs.declared.Written.the-variants as written
 use Rattle.shambrukit.specs.declared.Told.{Told}
 use Rattle.shambrukit.specs.declared.Told.the-variants.{Value, Refused}
+use Rattle.shambrukit.specs.declared.Listing.{Listing}
+use Rattle.shambrukit.specs.declared.Listing.the-variants.{Repetition, Skips, Tasks}
 use Rattle.shambrukit.specs.Graphs.{Judged, nothing, work-of, works-of}
 use Rattle.shambrukit.specs.Lines.{Outcome, refused, ready, sheet-lines, list-lines}
 
@@ -87,6 +89,12 @@ skip-numbers j = j .skips
 
 abbrev pub task-list : Judged → List ℕ
 task-list j = task-numbers (tasks (work-of j))
+
+-- The numbers of a graph that are asked for.
+abbrev pub listing-numbers : Listing → Judged → List ℕ
+listing-numbers Repetition = repetition-numbers
+listing-numbers Skips = skip-numbers
+listing-numbers Tasks = task-list
 
 -- The whole sheet in its other form, n numbers or bytes, into `room` places.
 abbrev pub whole : Outcome → ℕ → ℕ → Written

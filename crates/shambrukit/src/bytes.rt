@@ -5,7 +5,8 @@ ghost use Prim.Native.Nat.{_≤_};
 ghost use lib.ListN.{length, drop};
 ghost use Rattle.sheet.specs.Forms.{unpacked};
 ghost use Rattle.shambrukit.specs.Verdict.{SheetVerdict};
-ghost use Rattle.shambrukit.specs.Calls.{SheetTold, SheetFills, ListFills, demand-told, fewest-told, listed, numbers-of, repetition-numbers, skip-numbers, task-list, whole};
+ghost use Rattle.shambrukit.specs.Calls.{SheetTold, SheetFills, ListFills, demand-told, fewest-told, listed, numbers-of, listing-numbers, repetition-numbers, skip-numbers, task-list, whole};
+use super::Listing;
 use super::Prepared;
 use super::Told;
 use super::Verdict;
@@ -53,40 +54,37 @@ pub fn fewest(s: &[u8], graph: u64, actor: u64, k: u64) -> Told
     }
 }
 
-// Repetition numbers of a graph.
-pub fn repetition(s: &[u8], graph: u64, out: &mut [u64]) -> Written
-    ensures { λ r. ⌜ SheetFills (now (s .entry)) (λ o. listed repetition-numbers o graph (length (now (out .entry)))) (λ o. numbers-of repetition-numbers o graph) r (now (out .entry)) (now (out .exit)) ⌝ }
+// The numbers of a graph that are asked for.
+fn listing(s: &[u8], which: Listing, graph: u64, out: &mut [u64]) -> Written
+    ensures { λ r. ⌜ SheetFills (now (s .entry)) (λ o. listed (listing-numbers which) o graph (length (now (out .entry)))) (λ o. numbers-of (listing-numbers which) o graph) r (now (out .entry)) (now (out .exit)) ⌝ }
 {
     let mut numbers = [0u32; LIST];
     let unpacked = unpack::sheet(s, &mut numbers);
     match unpacked {
         Written::Refused(r) => Written::Refused(r),
-        Written::Wrote(n) => list::repetition(&numbers[..n], graph, out),
+        Written::Wrote(n) => list::listing(&numbers[..n], which, graph, out),
     }
+}
+
+// Repetition numbers of a graph.
+pub fn repetition(s: &[u8], graph: u64, out: &mut [u64]) -> Written
+    ensures { λ r. ⌜ SheetFills (now (s .entry)) (λ o. listed repetition-numbers o graph (length (now (out .entry)))) (λ o. numbers-of repetition-numbers o graph) r (now (out .entry)) (now (out .exit)) ⌝ }
+{
+    listing(s, Listing::Repetition, graph, out)
 }
 
 // Skips of a graph.
 pub fn skips(s: &[u8], graph: u64, out: &mut [u64]) -> Written
     ensures { λ r. ⌜ SheetFills (now (s .entry)) (λ o. listed skip-numbers o graph (length (now (out .entry)))) (λ o. numbers-of skip-numbers o graph) r (now (out .entry)) (now (out .exit)) ⌝ }
 {
-    let mut numbers = [0u32; LIST];
-    let unpacked = unpack::sheet(s, &mut numbers);
-    match unpacked {
-        Written::Refused(r) => Written::Refused(r),
-        Written::Wrote(n) => list::skips(&numbers[..n], graph, out),
-    }
+    listing(s, Listing::Skips, graph, out)
 }
 
 // 01, Task list of a graph.
 pub fn tasks(s: &[u8], graph: u64, out: &mut [u64]) -> Written
     ensures { λ r. ⌜ SheetFills (now (s .entry)) (λ o. listed task-list o graph (length (now (out .entry)))) (λ o. numbers-of task-list o graph) r (now (out .entry)) (now (out .exit)) ⌝ }
 {
-    let mut numbers = [0u32; LIST];
-    let unpacked = unpack::sheet(s, &mut numbers);
-    match unpacked {
-        Written::Refused(r) => Written::Refused(r),
-        Written::Wrote(n) => list::tasks(&numbers[..n], graph, out),
-    }
+    listing(s, Listing::Tasks, graph, out)
 }
 
 fn copy(from: &[u32], to: &mut [u32])

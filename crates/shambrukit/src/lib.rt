@@ -32,3 +32,10 @@ pub enum Prepared {
     Ready(Ticks),
     Refused(Refusal),
 }
+
+// Which numbers of a graph are asked for.
+pub enum Listing {
+    Repetition,
+    Skips,
+    Tasks,
+}

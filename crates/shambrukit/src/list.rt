@@ -5,9 +5,10 @@ ghost use Prim.Native.Nat.{ℕ, _≤_};
 ghost use lib.ListN.{length, take, drop};
 ghost use Rattle.sheet.specs.Forms.{packed};
 ghost use Rattle.shambrukit.specs.Verdict.{ListVerdict};
-ghost use Rattle.shambrukit.specs.Calls.{ListTold, ListFills, demand-told, fewest-told, listed, numbers-of, repetition-numbers, skip-numbers, task-list, whole};
+ghost use Rattle.shambrukit.specs.Calls.{ListTold, ListFills, demand-told, fewest-told, listed, numbers-of, listing-numbers, repetition-numbers, skip-numbers, task-list, whole};
 ghost use Rattle.shambrukit.specs.Graphs.{Judged};
 ghost use Rattle.shambrukit.specs.Held.{Held, HeldFramed, HeldVerdict, HeldTold, HeldListed, Column};
+use super::Listing;
 use super::Load;
 use super::Prepared;
 use super::Told;
@@ -180,32 +181,6 @@ fn copy(from: &[u64], n: usize, to: &mut [u64])
     }
 }
 
-// Repetition numbers of a graph.
-pub fn repetition(l: &[u32], graph: u64, numbers: &mut [u64]) -> Written
-    ensures { λ r. ⌜ ListFills (now (l .entry)) (λ o. listed repetition-numbers o graph (length (now (numbers .entry)))) (λ o. numbers-of repetition-numbers o graph) r (now (numbers .entry)) (now (numbers .exit)) ⌝ }
-{
-    let mut heads = [0u64; HEADS];
-    let mut rows = [0u64; ROWS];
-    let prepared = prepare::list(l, &mut heads, &mut rows);
-    match prepared {
-        Prepared::Refused(r) => Written::Refused(r),
-        Prepared::Ready(_) => room_of(l[0] as usize, &heads, &rows, graph, ROOM, numbers),
-    }
-}
-
-// Skips of a graph.
-pub fn skips(l: &[u32], graph: u64, numbers: &mut [u64]) -> Written
-    ensures { λ r. ⌜ ListFills (now (l .entry)) (λ o. listed skip-numbers o graph (length (now (numbers .entry)))) (λ o. numbers-of skip-numbers o graph) r (now (numbers .entry)) (now (numbers .exit)) ⌝ }
-{
-    let mut heads = [0u64; HEADS];
-    let mut rows = [0u64; ROWS];
-    let prepared = prepare::list(l, &mut heads, &mut rows);
-    match prepared {
-        Prepared::Refused(r) => Written::Refused(r),
-        Prepared::Ready(_) => room_of(l[0] as usize, &heads, &rows, graph, 2 * ROOM, numbers),
-    }
-}
-
 fn tasks_of(n: usize, heads: &[u64], rows: &[u64], graph: u64, numbers: &mut [u64]) -> Written
     requires { ⌜ Held n (now heads) (now rows) ⌝ }
     ensures { λ r. ⌜ HeldListed n (now (heads .entry)) (now (rows .entry)) task-list graph r (now (numbers .entry)) (now (numbers .exit)) ⌝ }
@@ -223,17 +198,56 @@ fn tasks_of(n: usize, heads: &[u64], rows: &[u64], graph: u64, numbers: &mut [u6
     Written::Wrote(count)
 }
 
-// 01, Task list of a graph.
-pub fn tasks(l: &[u32], graph: u64, numbers: &mut [u64]) -> Written
-    ensures { λ r. ⌜ ListFills (now (l .entry)) (λ o. listed task-list o graph (length (now (numbers .entry)))) (λ o. numbers-of task-list o graph) r (now (numbers .entry)) (now (numbers .exit)) ⌝ }
+fn listing_of(
+    n: usize,
+    heads: &[u64],
+    rows: &[u64],
+    which: Listing,
+    graph: u64,
+    numbers: &mut [u64],
+) -> Written
+    requires { ⌜ Held n (now heads) (now rows) ⌝ }
+    ensures { λ r. ⌜ HeldListed n (now (heads .entry)) (now (rows .entry)) (listing-numbers which) graph r (now (numbers .entry)) (now (numbers .exit)) ⌝ }
+{
+    match which {
+        Listing::Repetition => room_of(n, heads, rows, graph, ROOM, numbers),
+        Listing::Skips => room_of(n, heads, rows, graph, 2 * ROOM, numbers),
+        Listing::Tasks => tasks_of(n, heads, rows, graph, numbers),
+    }
+}
+
+// The numbers of a graph that are asked for.
+pub fn listing(l: &[u32], which: Listing, graph: u64, numbers: &mut [u64]) -> Written
+    ensures { λ r. ⌜ ListFills (now (l .entry)) (λ o. listed (listing-numbers which) o graph (length (now (numbers .entry)))) (λ o. numbers-of (listing-numbers which) o graph) r (now (numbers .entry)) (now (numbers .exit)) ⌝ }
 {
     let mut heads = [0u64; HEADS];
     let mut rows = [0u64; ROWS];
     let prepared = prepare::list(l, &mut heads, &mut rows);
     match prepared {
         Prepared::Refused(r) => Written::Refused(r),
-        Prepared::Ready(_) => tasks_of(l[0] as usize, &heads, &rows, graph, numbers),
+        Prepared::Ready(_) => listing_of(l[0] as usize, &heads, &rows, which, graph, numbers),
     }
+}
+
+// Repetition numbers of a graph.
+pub fn repetition(l: &[u32], graph: u64, numbers: &mut [u64]) -> Written
+    ensures { λ r. ⌜ ListFills (now (l .entry)) (λ o. listed repetition-numbers o graph (length (now (numbers .entry)))) (λ o. numbers-of repetition-numbers o graph) r (now (numbers .entry)) (now (numbers .exit)) ⌝ }
+{
+    listing(l, Listing::Repetition, graph, numbers)
+}
+
+// Skips of a graph.
+pub fn skips(l: &[u32], graph: u64, numbers: &mut [u64]) -> Written
+    ensures { λ r. ⌜ ListFills (now (l .entry)) (λ o. listed skip-numbers o graph (length (now (numbers .entry)))) (λ o. numbers-of skip-numbers o graph) r (now (numbers .entry)) (now (numbers .exit)) ⌝ }
+{
+    listing(l, Listing::Skips, graph, numbers)
+}
+
+// 01, Task list of a graph.
+pub fn tasks(l: &[u32], graph: u64, numbers: &mut [u64]) -> Written
+    ensures { λ r. ⌜ ListFills (now (l .entry)) (λ o. listed task-list o graph (length (now (numbers .entry)))) (λ o. numbers-of task-list o graph) r (now (numbers .entry)) (now (numbers .exit)) ⌝ }
+{
+    listing(l, Listing::Tasks, graph, numbers)
 }
 
 // The sheet of an unpacked form that no answer of 3 to 12 refuses.

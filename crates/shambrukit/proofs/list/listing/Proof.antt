@@ -1,12 +1,11 @@
--- `list::skips` meets its contract: the skips stand from place 64 of a row on.
+-- `list::listing` meets its contract.
 use borrow.Author.Needs.{needs}
 use native.Mathlib.Omega.{arith}
 use mathlib.Core.Path.{refl}
 use Rattle.shambrukit.specs.Lines.{refused, ready}
 use Rattle.shambrukit.proofs.Prepares.{ReadyHeld, refused-lines, ready-held}
-use Rattle.shambrukit.specs.Calls.{skip-numbers}
-use Rattle.shambrukit.proofs.list.skips.Statement.{statement}
-use Rattle.shambrukit.proofs.list.skips.Tie as tie
+use Rattle.shambrukit.proofs.list.listing.Statement.{statement}
+use Rattle.shambrukit.proofs.list.listing.Tie as tie
 
 -- Past the lines 3 to 12 the graphs are ready.
 held : (c : tie.After-enum-told) → ReadyHeld (c .before .before .before .before .before .before .before .before .before .args .l .now) (c .before .before .before .before .list .last .1 .0) (c .before .before .before .before .list .last .1 .1 .0) (c .enum-told .given .0 .0 .n)
@@ -27,23 +26,20 @@ enum-known-prepared c = search needs
 enum-told : tie.Need-enum-told
 enum-told c = search needs
 
-shared-slice-read-room-of : tie.Need-shared-slice-read-room-of
-shared-slice-read-room-of c = held (c .before) .count-there
+shared-slice-read-listing-of : tie.Need-shared-slice-read-listing-of
+shared-slice-read-listing-of c = held (c .before) .count-there
 
-cast-room-of : tie.Need-cast-room-of
-cast-room-of c = omega (arith, c .shared-slice-known2 .given 0)
+cast-listing-of : tie.Need-cast-listing-of
+cast-listing-of c = omega (arith, c .shared-slice-known2 .given 0)
 
-slice-aggregate-room-of : tie.Need-slice-aggregate-room-of
-slice-aggregate-room-of c = search needs
+slice-aggregate-listing-of : tie.Need-slice-aggregate-listing-of
+slice-aggregate-listing-of c = search needs
 
-slice-aggregate-room-of-2 : tie.Need-slice-aggregate-room-of-2
-slice-aggregate-room-of-2 c = search needs
+slice-aggregate-listing-of-2 : tie.Need-slice-aggregate-listing-of-2
+slice-aggregate-listing-of-2 c = search needs
 
-mul-room-of : tie.Need-mul-room-of
-mul-room-of c = search needs
-
-room-of-requires : tie.Need-room-of-requires
-room-of-requires c κs = let h = held (c .before .before .before .before) in ((h .js, h .stand), omega arith)
+listing-of-requires : tie.Need-listing-of-requires
+listing-of-requires c κs = let h = held (c .before .before .before .before) in (h .js, h .stand)
 
 returns : tie.Need-returns
 returns c = (refused _, refused-lines _ _ _ (c .before .before .before .before .before .list .ensures) (c .before .prepared .given .1), refl, refl)
@@ -55,11 +51,11 @@ returns-2 : tie.Need-returns-2
 returns-2 c =
     let h = held (c .before .before .before .before .before .before .before) in
     let F = c .before .before .before .before .before .before .before .enum-told .given .0 .0 .n in
-    let (answer, memory) = c .before .before .room-of .ensures skip-numbers (λ j heads rows i row. row .skips) (h .js) F (h .stand) in
+    let (answer, memory) = c .before .before .listing-of .ensures (h .js) F (h .stand) in
     (ready (h .js) F, h .lines, answer, memory)
 
-pub skips-spec : {M : Type 1} → statement M
-skips-spec =
+pub listing-spec : {M : Type 1} → statement M
+listing-spec =
     tie.close
     (tie.spec
     slice-aggregate-list
@@ -67,12 +63,11 @@ skips-spec =
     list-requires
     enum-known-prepared
     enum-told
-    shared-slice-read-room-of
-    cast-room-of
-    slice-aggregate-room-of
-    slice-aggregate-room-of-2
-    mul-room-of
-    room-of-requires
+    shared-slice-read-listing-of
+    cast-listing-of
+    slice-aggregate-listing-of
+    slice-aggregate-listing-of-2
+    listing-of-requires
     returns
     same-length
     returns-2)

@@ -1,11 +1,11 @@
--- The repetition numbers of a graph of a byte string: the refusal of answers 1 to 5, or those of its unpacked form.
+-- The numbers of a graph of a byte string: the refusal of answers 1 to 5, or those of its unpacked form.
 use mathlib.Core.Path.{refl, sym}
 use lib.Seq.{length-take-le}
 use borrow.Author.Needs.{needs}
 use Rattle.shambrukit.specs.Lines.{refused}
 use Rattle.shambrukit.proofs.Sheets.{Unpacks, unpack-refuses, unpack-writes, fills-as-list}
-use Rattle.shambrukit.proofs.bytes.repetition.Statement.{statement}
-use Rattle.shambrukit.proofs.bytes.repetition.Tie as tie
+use Rattle.shambrukit.proofs.bytes.listing.Statement.{statement}
+use Rattle.shambrukit.proofs.bytes.listing.Tie as tie
 
 slice-aggregate-sheet : tie.Need-slice-aggregate-sheet
 slice-aggregate-sheet c = search needs
@@ -31,11 +31,11 @@ held c =
 array-share-prefix-numbers : tie.Need-array-share-prefix-numbers
 array-share-prefix-numbers c = held c .there
 
-slice-aggregate-repetition : tie.Need-slice-aggregate-repetition
-slice-aggregate-repetition c = sym (length-take-le _ _ (held (c .before) .there))
+slice-aggregate-listing : tie.Need-slice-aggregate-listing
+slice-aggregate-listing c = sym (length-take-le _ _ (held (c .before) .there))
 
-repetition-requires : tie.Need-repetition-requires
-repetition-requires c κs = search needs
+listing-requires : tie.Need-listing-requires
+listing-requires c κs = search needs
 
 returns : tie.Need-returns
 returns c =
@@ -45,10 +45,10 @@ same-length : tie.Need-same-length
 same-length c = search needs
 
 returns-2 : tie.Need-returns-2
-returns-2 c = fills-as-list _ _ (held (c .before .before .before .before .before)) (c .before .before .repetition .ensures)
+returns-2 c = fills-as-list _ _ (held (c .before .before .before .before .before)) (c .before .before .listing .ensures)
 
-pub repetition-spec : {M : Type 1} → statement M
-repetition-spec =
+pub listing-spec : {M : Type 1} → statement M
+listing-spec =
     tie.close
     (tie.spec
     slice-aggregate-sheet
@@ -56,8 +56,8 @@ repetition-spec =
     enum-known-unpacked
     enum-known-unpacked-2
     array-share-prefix-numbers
-    slice-aggregate-repetition
-    repetition-requires
+    slice-aggregate-listing
+    listing-requires
     returns
     same-length
     returns-2)
