@@ -2,6 +2,7 @@
 //! nothing is taken from the heap unless the search of late.rs needs a table.
 
 use crate::answer::{Refusal, Verdict};
+use crate::counted;
 use crate::late::{Demand, Looks, Part};
 use std::cell::RefCell;
 
@@ -693,6 +694,7 @@ fn trial(set: u32, repetition: &[u32; ACTORS], channels: &[Channel]) -> bool {
     let mut unfinished = set;
     let mut from = 0;
     while todo != 0 {
+        counted::visit();
         // The next one round from the last: a ring is then followed along its tokens.
         let ahead = todo >> from << from;
         let actor = lowest(if ahead != 0 { ahead } else { todo });

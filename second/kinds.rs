@@ -1,18 +1,21 @@
 //! Books of one kind of sheet, to measure speed: what a loader sees every day, the largest
-//! sheets, and sheets that are hard on the search or on the trial run.
+//! sheets, sheets that are hard on the search or on the trial run, and families that grow with a
+//! number.
 
 use crate::calls::packed;
 use crate::fast;
-use crate::literal::{gcd, Channel, Graph, MOST_FRAME};
+use crate::literal::{check, gcd, Channel, Form, Graph, MOST_FRAME};
 use crate::maker::{self, Size};
 use crate::random::Random;
 
-pub const KINDS: &[&str] = &[
-    "typical", "maximal", "mixed", "nested", "full", "always", "end", "idle", "primes", "coprime",
-    "against",
-];
+/// What `make` knows; the last three take a number.
+pub const NAMES: &str = "typical maximal mixed nested full always end idle primes design bends \
+    coprime against zigzag sink rates actors:1..32 channels:31..64 frame:100..10000000";
 
 pub fn make(kind: &str, random: &mut Random) -> Option<Vec<u8>> {
+    if let Some((family, number)) = kind.split_once(':') {
+        return member(family, number.parse().ok()?, random);
+    }
     Some(match kind {
         "typical" => accepted(random, |random| {
             let mut graphs: Vec<Graph> = (0..8)
@@ -26,14 +29,28 @@ pub fn make(kind: &str, random: &mut Random) -> Option<Vec<u8>> {
         }),
         "maximal" => accepted(random, |random| maker::sheet(random, Size::Largest)),
         "mixed" => maker::make(random),
-        "nested" => nested(random),
-        "full" => full(random),
-        "always" => always(random),
-        "end" => end(random),
-        "idle" => idle(random),
-        "primes" => primes(random),
-        "coprime" => rings(random, false),
-        "against" => rings(random, true),
+        "nested" => judged(random, nested),
+        "full" => judged(random, full),
+        "always" => judged(random, always),
+        "end" => judged(random, end),
+        "idle" => judged(random, idle),
+        "primes" => judged(random, primes),
+        "design" => judged(random, design),
+        "bends" => judged(random, bends),
+        "coprime" => packed(&eight(random, |random| coprime(random, false))),
+        "against" => packed(&eight(random, |random| coprime(random, true))),
+        "zigzag" => packed(&eight(random, zigzag)),
+        "sink" => packed(&eight(random, sink)),
+        "rates" => rates(random),
+        _ => return None,
+    })
+}
+
+fn member(family: &str, number: usize, random: &mut Random) -> Option<Vec<u8>> {
+    Some(match (family, number) {
+        ("actors", 1..=32) => accepted(random, |random| light(random, number, 3 * number / 2)),
+        ("channels", 31..=64) => accepted(random, |random| light(random, 32, number)),
+        ("frame", 100..=10_000_000) => judged(random, |random| close(random, number as i64)),
         _ => return None,
     })
 }
@@ -42,6 +59,16 @@ fn accepted(random: &mut Random, mut graphs: impl FnMut(&mut Random) -> Vec<Grap
     loop {
         let sheet = packed(&graphs(random));
         if fast::judge(&sheet).answer == 0 {
+            return sheet;
+        }
+    }
+}
+
+/// Accepted or late, so that the search has been made.
+fn judged(random: &mut Random, mut sheet: impl FnMut(&mut Random) -> Vec<u8>) -> Vec<u8> {
+    loop {
+        let sheet = sheet(random);
+        if matches!(fast::judge(&sheet).answer, 0 | 21) {
             return sheet;
         }
     }
@@ -113,15 +140,22 @@ fn nested(random: &mut Random) -> Vec<u8> {
     tightened(random, graphs)
 }
 
-/// 1/2 + 1/3 + 1/7 + 1/43 + 1/1807 + 1/3263442 = 1: full load, hardly any slack anywhere.
+/// 1/2 + 1/3 + 1/7 + 1/43 + 1/1807 + 1/3263442 = 1: full load, hardly any slack anywhere. The
+/// longest may be three graphs that take turns, over a frame three times as long.
 fn full(random: &mut Random) -> Vec<u8> {
-    let periods = [2, 3, 7, 43, 1_807, 3_263_442];
-    let times = random.pick(&[1, 1, 2, 3]);
-    let mut graphs: Vec<Graph> = periods
-        .iter()
-        .filter(|period| *period * times <= MOST_FRAME)
-        .map(|p| plain(p * times, p * times, times))
-        .collect();
+    let longest = 3_263_442;
+    let turns = random.once_in(2);
+    let times = if turns { 1 } else { random.pick(&[1, 1, 2, 3]) };
+    let mut graphs: Vec<Graph> = [2, 3, 7, 43, 1_807]
+        .map(|period| plain(period * times, period * times, times))
+        .to_vec();
+    if turns {
+        for turn in 1..=3 {
+            graphs.push(plain(3 * longest, turn * longest, times));
+        }
+    } else {
+        graphs.push(plain(longest * times, longest * times, times));
+    }
     random.shuffle(&mut graphs);
     tightened(random, graphs)
 }
@@ -188,67 +222,336 @@ fn primes(random: &mut Random) -> Vec<u8> {
     }
 }
 
-/// Rings of coprime repetition numbers near 4,096 with hardly more tokens than they need.
-fn rings(random: &mut Random, against: bool) -> Vec<u8> {
-    let graphs: Vec<Graph> = (0..8).map(|_| ring(random, against)).collect();
+/// Eight periods at a load two ticks below their frame, and sheets next to that one.
+fn design(random: &mut Random) -> Vec<u8> {
+    let mut graphs: Vec<Graph> = [
+        (40, 40, 1),
+        (63, 60, 1),
+        (44, 44, 3),
+        (26, 17, 3),
+        (34, 34, 12),
+        (30, 30, 8),
+        (45, 31, 3),
+        (56, 46, 5),
+    ]
+    .map(|(period, deadline, time)| plain(period, deadline, time))
+    .to_vec();
+    for _ in 0..random.below(4) {
+        let graph = &mut graphs[random.below(8)];
+        let by = random.pick(&[-1, 1]);
+        match random.below(6) {
+            0 => graph.period += by,
+            1 => graph.times[0] = (graph.times[0] + by).max(1),
+            _ => graph.deadline += by * random.between(1, 8),
+        }
+    }
+    if random.once_in(4) {
+        maker::tighten_one(&mut graphs, random.below(8));
+    }
+    random.shuffle(&mut graphs);
     packed(&graphs)
 }
 
-fn ring(random: &mut Random, against: bool) -> Graph {
+/// Skips that are used up only far into the frame, actor by actor, at a load at or just below it.
+fn bends(random: &mut Random) -> Vec<u8> {
+    let frame = random.pick(&[9_979_200, 9_699_690, 8_648_640, 10_000_000]);
+    let count = random.between(1, 7);
+    let most = random.pick(&[20, 60, 400]);
+    let short: Vec<i64> = (count.max(4)..most)
+        .filter(|period| frame % period == 0)
+        .collect();
+    let mut graphs = Vec::new();
+    if random.once_in(2) {
+        for _ in 0..count {
+            let period = random.pick(&short);
+            graphs.push(bending(random, frame, period, period / count));
+        }
+    } else {
+        // Little work is skipped, so that demand stays close to the length all along.
+        for _ in 0..5 {
+            let period = random.pick(&short);
+            graphs.push(plain(period, period, (period / 6).max(1)));
+        }
+        for _ in 0..2 {
+            let period = frame / gcd(frame, random.between(2, 3_000));
+            graphs.push(bending(random, frame, period, 40));
+        }
+    }
+    if graphs.len() < 7 {
+        graphs.push(plain(frame, frame, 0));
+    }
+    if random.below(4) > 0 {
+        maker::fill_up(random, &mut graphs);
+    }
+    tightened(random, graphs)
+}
+
+/// A chain whose channels hold so many tokens that its first actor comes in near the frame's end.
+/// The input holds all of it back, and takes what work the chain leaves.
+fn bending(random: &mut Random, frame: i64, period: i64, work: i64) -> Graph {
+    let chain = random.between(1, 30) as usize;
+    let most = random.pick(&[1, 3, 3, 5]);
+    let mut numbers = vec![1; chain + 2];
+    for number in &mut numbers[1..=chain] {
+        *number = random.between(1, most);
+    }
+    let step = frame / period / chain as i64 + 1;
+    let mut channels = vec![link(&numbers, 0, chain + 1)];
+    let mut times = vec![0; chain + 2];
+    times[0] = work;
+    for actor in 1..=chain {
+        channels.push(link(&numbers, 0, actor));
+        let mut channel = link(&numbers, actor, actor + 1);
+        let blocks = random.between(step - step / 3, step);
+        channel.tokens = (blocks * channel.produce * numbers[actor]).min(65_535);
+        channels.push(channel);
+        if (actor == 1 || random.once_in(2)) && numbers[actor] <= times[0] {
+            times[actor] = 1;
+            times[0] -= numbers[actor];
+        }
+    }
+    if random.once_in(2) {
+        channels.reverse();
+    }
+    Graph {
+        input: 0,
+        output: chain + 1,
+        period,
+        deadline: period,
+        times,
+        channels,
+    }
+}
+
+fn link(numbers: &[i64], tail: usize, head: usize) -> Channel {
+    let common = gcd(numbers[tail], numbers[head]);
+    Channel {
+        tail,
+        head,
+        produce: numbers[head] / common,
+        consume: numbers[tail] / common,
+        tokens: 0,
+    }
+}
+
+/// Eight graphs that no search follows. The last may have a token less, and deadlock.
+fn eight(random: &mut Random, mut graph: impl FnMut(&mut Random) -> Graph) -> Vec<Graph> {
+    let mut graphs = Vec::new();
+    while graphs.len() < 8 {
+        let made = graph(random);
+        if fast::judge(&packed(std::slice::from_ref(&made))).answer == 0 {
+            graphs.push(made);
+        }
+    }
+    let channel = &mut graphs[7].channels[0];
+    if channel.tokens > 0 && random.once_in(3) {
+        channel.tokens -= 1;
+    }
+    graphs
+}
+
+/// A graph of actors with these repetition numbers, the first of them the input and the last the
+/// output, one tick each and in no hurry.
+fn slow(numbers: &[i64], channels: Vec<Channel>) -> Graph {
+    Graph {
+        input: 0,
+        output: numbers.len() - 1,
+        period: MOST_FRAME,
+        deadline: MOST_FRAME,
+        times: vec![1; numbers.len()],
+        channels,
+    }
+}
+
+/// A ring through the actors `order`, from the input and on to the output. The first channel
+/// closes it.
+fn ring(numbers: &[i64], order: &[usize]) -> Vec<Channel> {
+    let mut tail = order[order.len() - 1];
+    let mut channels = Vec::new();
+    for head in order {
+        channels.push(link(numbers, tail, *head));
+        tail = *head;
+    }
+    channels.push(link(numbers, 0, order[0]));
+    channels.push(link(numbers, tail, numbers.len() - 1));
+    channels
+}
+
+/// The first channel with hardly more tokens than the graph needs there.
+fn closed(random: &mut Random, mut graph: Graph) -> Graph {
+    let least = maker::fewest_tokens(&graph, 0).unwrap_or(65_535);
+    graph.channels[0].tokens = (least + random.pick(&[0, 0, 0, 1, 100])).min(65_535);
+    graph
+}
+
+/// Rings of coprime repetition numbers near 4,096.
+fn coprime(random: &mut Random, against: bool) -> Graph {
     let around = random.pick(&[2, 3, 5, 14, 30]);
-    let numbers: Vec<i64> = (0..around)
-        .map(|_| match random.below(3) {
+    let mut numbers = vec![1; around + 2];
+    for number in &mut numbers[1..=around] {
+        *number = match random.below(3) {
             0 => 4_096,
             1 => 4_095,
             _ => random.between(3_500, 4_096),
-        })
-        .collect();
-    let link = |tail: usize, head: usize| {
-        let common = gcd(numbers[tail], numbers[head]);
-        (numbers[head] / common, numbers[tail] / common)
-    };
-    // The input is actor 0, the ring 1 to `around`, the output the last.
-    let name = |place: usize| if against { around - place } else { place + 1 };
-    let mut channels = Vec::new();
-    channels.push(Channel {
-        tail: 0,
-        head: name(0),
-        produce: numbers[0],
-        consume: 1,
-        tokens: 0,
-    });
-    channels.push(Channel {
-        tail: name(around - 1),
-        head: around + 1,
-        produce: 1,
-        consume: numbers[around - 1],
-        tokens: 0,
-    });
-    let mut closing = 0;
-    for place in 0..around {
-        let next = (place + 1) % around;
-        let (produce, consume) = link(place, next);
-        if next == 0 {
-            closing = channels.len();
-        }
-        channels.push(Channel {
-            tail: name(place),
-            head: name(next),
-            produce,
-            consume,
-            tokens: 0,
-        });
+        };
     }
-    channels[closing].tokens = 65_535;
-    let mut graph = Graph {
-        input: 0,
-        output: around + 1,
-        period: 1_000_000,
-        deadline: 1_000_000,
-        times: vec![1; around + 2],
-        channels,
+    let mut order: Vec<usize> = (1..=around).collect();
+    if against {
+        order.reverse();
+    }
+    let channels = ring(&numbers, &order);
+    closed(random, slow(&numbers, channels))
+}
+
+/// A ring of one token or few, numbered so that it goes up and down in turn; every channel of it
+/// may be there twice.
+fn zigzag(random: &mut Random) -> Graph {
+    let around = 30;
+    let mut numbers = vec![random.pick(&[4_096, 4_096, 4_095]); around + 2];
+    (numbers[0], numbers[around + 1]) = (1, 1);
+    match random.below(4) {
+        0 => numbers[1 + random.below(around)] = random.between(4_090, 4_096),
+        1 => numbers[1 + random.below(around)] /= 3,
+        _ => (),
+    }
+    let order: Vec<usize> = match random.below(3) {
+        0 => (0..around)
+            .map(|place| 1 + place / 2 + place % 2 * 15)
+            .collect(),
+        1 => (0..around).map(|place| 1 + place * 13 % around).collect(),
+        _ => {
+            let turn = |place| {
+                if place % 2 == 0 {
+                    place / 2
+                } else {
+                    around - 1 - place / 2
+                }
+            };
+            (0..around).map(|place| 1 + turn(place)).collect()
+        }
     };
-    let least = maker::fewest_tokens(&graph, closing).unwrap_or(65_535);
-    graph.channels[closing].tokens = (least + random.pick(&[0, 0, 0, 1, 100])).min(65_535);
+    let mut graph = closed(random, slow(&numbers, ring(&numbers, &order)));
+    if random.once_in(2) {
+        let twice = graph.channels[..around].to_vec();
+        graph.channels.extend(twice);
+    }
     graph
+}
+
+/// A ring of one token whose every actor also feeds one more, the output or the last before it.
+fn sink(random: &mut Random) -> Graph {
+    let around = 15 + random.below(15);
+    let number = random.between(4_090, 4_096);
+    let once = random.once_in(2);
+    let mut numbers = vec![number; if once { around + 2 } else { around + 3 }];
+    let output = numbers.len() - 1;
+    (numbers[0], numbers[output]) = (1, 1);
+    let mut order: Vec<usize> = (1..=around).collect();
+    match random.below(3) {
+        0 => order.reverse(),
+        1 => random.shuffle(&mut order),
+        _ => (),
+    }
+    let mut channels = ring(&numbers, &order);
+    channels.pop();
+    for actor in 1..=around {
+        channels.push(link(&numbers, actor, around + 1));
+    }
+    if !once {
+        channels.push(link(&numbers, around + 1, output));
+    }
+    closed(random, slow(&numbers, channels))
+}
+
+/// Rates 4,095 and 4,096 one after the other. The last graph may pass the bound of repetition
+/// numbers (answer 8), at the end of its chain.
+fn rates(random: &mut Random) -> Vec<u8> {
+    let mut graphs = eight(random, rated);
+    if random.once_in(4) {
+        let graph = &mut graphs[7];
+        let last = graph.channels.len() - 1;
+        let channel = &mut graph.channels[last];
+        (channel.produce, channel.consume) = random.pick(&[(4_095, 4_094), (4_096, 4_093), (2, 1)]);
+    }
+    packed(&graphs)
+}
+
+fn rated(random: &mut Random) -> Graph {
+    let between = 2 + random.below(29);
+    let mut numbers = vec![1];
+    for place in 0..between {
+        numbers.push(4_096 - place as i64 % 2);
+    }
+    numbers.push(1);
+    let order: Vec<usize> = (1..=between).collect();
+    let mut channels = ring(&numbers, &order);
+    if random.once_in(2) {
+        channels.remove(0);
+        return slow(&numbers, channels);
+    }
+    closed(random, slow(&numbers, channels))
+}
+
+/// Eight graphs of one size at half the load they may have.
+fn light(random: &mut Random, actors: usize, channels: usize) -> Vec<Graph> {
+    (0..8)
+        .map(|_| {
+            let mut graph = maker::valid_graph(random, actors, channels);
+            graph.period = random.pick(&[2_000_000, 2_500_000, 5_000_000, 10_000_000]);
+            graph.deadline = graph.period / 2;
+            graph.times = vec![1; actors];
+            graph
+        })
+        .collect()
+}
+
+/// Six periods within a frame, at a load close to it and with every deadline tightened.
+fn close(random: &mut Random, frame: i64) -> Vec<u8> {
+    let periods: Vec<i64> = (4..=frame.min(400))
+        .filter(|period| frame % period == 0)
+        .collect();
+    let mut graphs = vec![plain(frame, frame, (frame / 50).clamp(1, 100_000))];
+    for _ in 0..5 {
+        let period = random.pick(&periods);
+        graphs.push(plain(period, period, (period / 6).max(1)));
+    }
+    maker::fill_up(random, &mut graphs);
+    tightened(random, graphs)
+}
+
+/// A sheet next to one of these, to search for slower ones; the same where none is found that is
+/// judged as far.
+pub fn vary(random: &mut Random, sheets: &[Vec<u8>]) -> Vec<u8> {
+    let sheet = random.pick(sheets);
+    let Ok(judged) = check(Form::Sheet(&sheet), 0) else {
+        return sheet;
+    };
+    for _ in 0..20 {
+        let mut graphs = judged.graphs.clone();
+        for _ in 0..random.between(1, 3) {
+            let place = random.below(graphs.len());
+            change(random, &mut graphs[place]);
+        }
+        let varied = packed(&graphs);
+        if matches!(fast::judge(&varied).answer, 0 | 10 | 21) {
+            return varied;
+        }
+    }
+    sheet
+}
+
+fn change(random: &mut Random, graph: &mut Graph) {
+    let actor = random.below(graph.times.len());
+    let channel = random.below(graph.channels.len().max(1));
+    let step = |random: &mut Random, value: &mut i64, least: i64| {
+        let most = random.pick(&[1, 1, 1, 10, *value / 4 + 1]);
+        *value = (*value + random.pick(&[-1, 1]) * random.between(1, most)).max(least);
+    };
+    match random.below(6) {
+        0 => step(random, &mut graph.period, 1),
+        1 => step(random, &mut graph.times[actor], 0),
+        2 if !graph.channels.is_empty() => step(random, &mut graph.channels[channel].tokens, 0),
+        3 => graph.times[actor] = random.pick(&[0, 1]),
+        _ => step(random, &mut graph.deadline, 1),
+    }
 }

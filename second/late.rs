@@ -3,6 +3,7 @@
 //! Blocks due, demand and late are document 01's. Lengths, loads and frames stay within 64 bits
 //! because they are only compared once the frame load is at most the frame.
 
+use crate::counted;
 use crate::fast::gcd;
 
 /// One graph's demand: blocks x `work` - `behind` from `straight` blocks on. Before that the
@@ -174,6 +175,7 @@ impl Demand {
 
     #[inline]
     pub fn at(&self, length: u32) -> u64 {
+        counted::looks(1);
         let mut demand = 0;
         for part in self.busy() {
             let blocks = part.blocks(length);
@@ -428,6 +430,7 @@ fn first_late(lines: &mut [Line], behind: i64, from: u32, end: u32) -> Option<u3
         .sum::<i64>()
         - cycle as i64;
     let size = cycle + longest;
+    counted::looks(size);
     let mut above = vec![-1i64; size];
     above[0] = shorts
         .iter()
@@ -466,6 +469,7 @@ fn first_late(lines: &mut [Line], behind: i64, from: u32, end: u32) -> Option<u3
         - behind;
     let mut length = from;
     loop {
+        counted::looks(1);
         let until = next.iter().copied().min().unwrap_or(end).min(end);
         let run = ((until - length) as usize).min(longest);
         let past = (length - from) as usize;

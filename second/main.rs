@@ -7,6 +7,7 @@ mod book;
 mod brute;
 mod calls;
 mod cases;
+mod counted;
 mod fast;
 mod kinds;
 mod late;
@@ -48,10 +49,12 @@ fn run(words: &[&str]) -> Outcome {
         ["make", seed, count, file] => make(seed, count, file, None),
         ["make", seed, count, file, examples] => make(seed, count, file, Some(examples)),
         ["kind", kind, seed, count, file] => kind_of_book(kind, seed, count, file),
+        ["vary", seed, count, file, more] => vary(seed, count, file, more),
         ["brute", seed, count] => brute::run(number(seed)?, number(count)? as usize),
         ["compare", seed, count] => compare(seed, count),
         ["wrong", number, file] => wrong_copies(number, file),
         ["time", file, repeat] => time(file, repeat),
+        ["count", file] => count(file),
         _ => Err("modes: see README.md".to_string()),
     }
 }
@@ -156,9 +159,23 @@ fn kind_of_book(kind: &str, seed: &str, count: &str, file: &str) -> Outcome {
     let made: Option<Vec<Vec<u8>>> = (0..number(count)?)
         .map(|_| kinds::make(kind, &mut random))
         .collect();
-    let sheets = made.ok_or_else(|| format!("kinds: {}", kinds::KINDS.join(" ")))?;
+    let sheets = made.ok_or_else(|| format!("kinds: {}", kinds::NAMES))?;
     book::write(file, &sheets).map_err(|error| format!("{file}: {error}"))?;
     print_answers(&sheets);
+    Ok(())
+}
+
+fn vary(seed: &str, count: &str, file: &str, more: &str) -> Outcome {
+    let mut random = Random::new(number(seed)?);
+    let sheets = read_book(file)?;
+    if sheets.is_empty() {
+        return Err(format!("{file}: no sheets"));
+    }
+    let varied: Vec<Vec<u8>> = (0..number(count)?)
+        .map(|_| kinds::vary(&mut random, &sheets))
+        .collect();
+    book::write(more, &varied).map_err(|error| format!("{more}: {error}"))?;
+    print_answers(&varied);
     Ok(())
 }
 
@@ -341,5 +358,19 @@ fn time(file: &str, repeat: &str) -> Outcome {
         slowest.1,
         slowest.0
     );
+    Ok(())
+}
+
+/// Lengths at which the fast path finds demand, and visits of its trial runs, a line a sheet.
+fn count(file: &str) -> Outcome {
+    if !counted::COUNTS {
+        return Err("only a program compiled with --cfg counted counts".to_string());
+    }
+    for sheet in read_book(file)? {
+        counted::since();
+        fast::judge(&sheet);
+        let (looks, visits) = counted::since();
+        println!("{looks} {visits}");
+    }
     Ok(())
 }
