@@ -1,9 +1,10 @@
 -- 01, answer 21: the length from which on demand is within by a bound that needs no rounding.
-use mathlib.Core.Path.{_≡_, _∙_, ap, refl}
-use mathlib.Core.Logic.{inl, inr, ⊎-elim}
+use mathlib.Core.Path.{_≡_, _∙_, ap, refl, sym}
+use mathlib.Core.Logic.{inl, inr, ⊎-elim, ⊎-map}
 use mathlib.Core.List.{List}
-use Prim.Native.Nat.{ℕ, zero, suc, _+_, _*_, _-_, _/_, _^_, _<_, _≤_, min}
+use Prim.Native.Nat.{ℕ, zero, suc, _+_, _*_, _-_, _/_, _%_, _^_, _<_, _≤_, min}
 use native.Mathlib.Nat.{le-refl, le-trans, le-of-lt, sub-le, sub-eq-zero-of-le, mul-le-mul, mul-le-mul-left, mul-le-mul-right, lt-of-mul-lt-mul-left, lt-of-le-of-lt}
+use native.Mathlib.Nat.{le-div-iff-mul-le, le-of-dvd, mod-lt, mod-add-div', zero-mul, suc-mul, add-zero, add-assoc}
 use native.Mathlib.Nat.{div-mul-cancel, pos-of-dvd-of-pos, lt-mul-div-succ, min-eq-left, min-eq-right, eq-or-lt-of-le, le-of-suc-le-suc}
 use native.Mathlib.Omega.{arith}
 use lib.Dec.{lit<}
@@ -14,11 +15,10 @@ use Rattle.sdf.specs.Skip.{fewest}
 use Rattle.sdf.proofs.Numbers.{lt-or-ge, sub-mul}
 use Rattle.sdf.proofs.Sum.{sum-ext, sum-mono, sum-mono-add, sum-scale, term-le-sum}
 use Rattle.edf.specs.Demand.{Work, Works, cost, blocks, demand, iteration, load, Within}
-use Rattle.edf.specs.Frame.{CommonMultiple, Frame}
-use Rattle.edf.proofs.Blocks.{due-reaches}
-use Rattle.edf.proofs.Demand.{WithinBelow, within-from-frame}
+use Rattle.edf.proofs.Blocks.{due-frame, due-reaches}
+use Rattle.edf.proofs.Demand.{WithinBelow, cost-mono, cost-more}
 use Rattle.demand.specs.Lent.{work-at, works-of, Lent}
-use Rattle.demand.specs.Rises.{Weighed, share, Shares, graph-surplus, End, WalkAnswer}
+use Rattle.demand.specs.Search.{Weighed, share, Shares, Carries, graph-surplus, End, SearchEnd, SearchAnswer}
 use Rattle.demand.specs.Answers.{LateAnswer}
 use Rattle.demand.specs.declared.Lateness.{Lateness}
 use Rattle.demand.specs.declared.Lateness.the-variants.{At, Never}
@@ -43,14 +43,60 @@ share-bound w f t p =
     let room : K * w .period ≤ t + (w .period - w .deadline) = omega (arith, due-reaches (w .period) (w .deadline) K t p .0 (le-refl K)) in
     omega (arith, mul-le-mul-left (f * iteration w) room, mul-le-mul-left (f * w .period) (cost-under w K))
 
-module _ (ws : Works) {F : ℕ} (m : CommonMultiple (ws .graphs) (λ i. ws .work i .period) F) where
+-- A graph whose iteration takes no time asks for nothing.
+cost-none : (w : Work) → iteration w ≡ 0 → (K : ℕ) → cost w K ≡ 0
+cost-none w z K = omega (arith, cost-under w K, ap (λ (x : ℕ). K * x) z)
+
+-- The frame of the search is within the bound of ticks.
+pub span-high : {n G F : ℕ} {p w : ℕ → ℕ} → Carries n p w G F → 0 < G → G ≤ max-ticks → F ≤ max-ticks
+span-high m z h = le-trans (le-of-dvd z (m .divides)) h
+
+-- The frame of the search carries the graphs of a sheet.
+abbrev CarriesAll : Works → ℕ → ℕ → Type 0
+CarriesAll ws = Carries (ws .graphs) (λ i. ws .work i .period) (λ i. iteration (ws .work i))
+
+module _ (ws : Works) {G F : ℕ} (m : CarriesAll ws G F) where
+  -- Its load is within it if that of the frame is.
+  pub span-fits : 0 < G → load ws G ≤ G → load ws F ≤ F
+  unfolding load
+  span-fits p h =
+      let k = G / F in
+      let whole : k * F ≡ G = div-mul-cancel F (m .divides) in
+      let parts : k * load ws F ≤ load ws G = rw (← sum-scale k) (sum-mono _ _ (ws .graphs) (λ i l.
+      let w = ws .work i in
+      ⊎-elim
+      (λ d.
+      let e = div-mul-cancel (w .period) d in
+      let more = le-div-iff-mul-le {x = k * (F / w .period)} {y = G} (pos-of-dvd-of-pos d (m .positive)) .1
+      (omega (arith, ap (λ (x : ℕ). k * x) e)) in
+      omega (arith, mul-le-mul-right (iteration w) more))
+      (λ z. rw z (omega arith))
+      (m .each i l))) in
+      let some : 1 ≤ k = le-div-iff-mul-le {x = 1} {y = G} (m .positive) .1 (omega (arith, le-of-dvd p (m .divides))) in
+      let below : k * load ws F < k * (F + 1) = omega arith in
+      omega (arith, lt-of-mul-lt-mul-left k below)
+
   -- Frame × demand is at most load × length and the slack.
   demand-bound : (t : ℕ) → F * demand ws t ≤ t * load ws F + slack ws F
   unfolding demand load
   demand-bound t = rw (← sum-scale F, ← sum-scale t) (sum-mono-add _ _ _ (ws .graphs) (λ i l.
       let w = ws .work i in
-      let d = m .multiple i l in
-      rw (div-mul-cancel (w .period) d) at (share-bound w (F / w .period) t (pos-of-dvd-of-pos d (m .positive)))))
+      ⊎-elim
+      (λ d. rw (div-mul-cancel (w .period) d) at (share-bound w (F / w .period) t (pos-of-dvd-of-pos d (m .positive))))
+      (λ z. rw (cost-none w z (blocks w t)) (omega arith))
+      (m .each i l)))
+
+  -- A frame more of length adds at most the frame load.
+  demand-span : (t : ℕ) → demand ws (t + F) ≤ demand ws t + load ws F
+  unfolding demand load blocks
+  demand-span t = sum-mono-add _ _ _ (ws .graphs) (λ i l.
+      let w = ws .work i in
+      ⊎-elim
+      (λ d. le-trans
+      (cost-mono w (due-frame (w .period) (w .deadline) t (pos-of-dvd-of-pos d (m .positive)) d))
+      (cost-more w (blocks w t) (F / w .period)))
+      (λ z. rw (cost-none w z) (omega arith))
+      (m .each i l))
 
   module _ (fits : load ws F ≤ F) where
     within-from : {e : ℕ} → load ws F * e + slack ws F < F * (e + 1) → (t : ℕ) → e ≤ t → demand ws t ≤ t
@@ -61,10 +107,18 @@ module _ (ws : Works) {F : ℕ} (m : CommonMultiple (ws .graphs) (λ i. ws .work
         omega (arith, demand-bound t, mul-le-mul-right d fits, ap (λ (x : ℕ). F * x) whole, ap (λ (x : ℕ). x * load ws F) whole) in
         omega (arith, lt-of-mul-lt-mul-left F below)
 
+    within-spans : WithinBelow ws F → (r n : ℕ) → r < F → demand ws (r + n * F) ≤ r + n * F
+    within-spans below r zero h = rw (zero-mul F, add-zero r) (below r h)
+    within-spans below r (suc n) h = rw (suc-mul n F, ← add-assoc r (n * F) F)
+        (omega (arith, demand-span (r + n * F), within-spans below r n h))
+
+    within-from-span : WithinBelow ws F → Within ws
+    within-from-span below t = rw (mod-add-div' t F) at (within-spans below (t % F) (t / F) (mod-lt t (m .positive)))
+
     -- If demand is within every length below the end, it is within every length.
     pub end-enough : {e : ℕ} → End F (load ws F) (slack ws F) e → WithinBelow ws e → Within ws
     end-enough {e} h below t = ⊎-elim
-        (λ (q : e ≡ F). within-from-frame ws m fits (rw q at below) t)
+        (λ (q : e ≡ F). within-from-span (rw q at below) t)
         (λ more. ⊎-elim (below t) (within-from more t) (lt-or-ge t e))
         (h .enough)
 
@@ -126,7 +180,7 @@ module _ {F : ℕ} {heads weight : List ℕ} (g : Shares F heads weight) where
       → Added (graph-surplus F heads weight) x y i
   surplus-added {i} l = added (graph-surplus F heads weight) (omega (arith, surplus-high (i + 1) (omega arith)))
 
-module _ (heads times q s : List ℕ) (room : ℕ) {weight knee : List ℕ} (g : Weighed (works-of heads times q s room) weight knee) where
+module _ (heads times q s : List ℕ) (room : ℕ) {weight : List ℕ} (g : Weighed (works-of heads times q s room) weight) where
   -- The shares add up to the frame load, which is within the bound of ticks.
   pub shares : {F L : ℕ} → Lent heads times q s room → F ≤ max-ticks → L ≡ load (works-of heads times q s room) F → L ≤ F → Shares F heads weight
   unfolding load
@@ -145,10 +199,29 @@ module _ (heads times q s : List ℕ) (room : ℕ) {weight knee : List ℕ} (g :
   surplus-slack F = sum-ext _ _ (length heads / 3)
       (λ i l. ap (λ (x : ℕ). F / getD heads (3 * i) 0 * x * (getD heads (3 * i) 0 - getD heads (3 * i + 1) 0)) (g .weight i l))
 
-  -- What the walk up to the end answers is the answer.
-  pub end-answers : {F L x e : ℕ} → Frame (length heads / 3) (λ i. getD heads (3 * i) 0) F → L ≡ load (works-of heads times q s room) F → L ≤ F
-      → x ≡ sumTo (graph-surplus F heads weight) (length heads / 3) → End F L x e
-      → (r : Lateness) → WalkAnswer (works-of heads times q s room) e r → LateAnswer (works-of heads times q s room) r
-  end-answers f a l b k (At t) w = w
-  end-answers {F} {e = e} f a l b k Never w =
-      end-enough (works-of heads times q s room) (f .common) (rw a at l) (rw (a, b ∙ surplus-slack F) at k) w
+  carries-all : {G F : ℕ} → Carries (length heads / 3) (λ i. getD heads (3 * i) 0) (λ i. getD weight i 0) G F
+      → CarriesAll (works-of heads times q s room) G F
+  carries-all m = record {
+    positive = m .positive;
+    divides = m .divides;
+    each = λ i l. ⊎-map (λ d. d) (λ (z : getD weight i 0 ≡ 0). sym (g .weight i l) ∙ z) (m .each i l);
+  }
+
+  -- The load of the search's frame is within it.
+  pub span-load : {G L F M : ℕ} → Carries (length heads / 3) (λ i. getD heads (3 * i) 0) (λ i. getD weight i 0) G F
+      → 0 < G → L ≡ load (works-of heads times q s room) G → L ≤ G → M ≡ load (works-of heads times q s room) F → M ≤ F
+  span-load m p a l b = rw b (span-fits (works-of heads times q s room) (carries-all m) p (rw a at l))
+
+  -- The end by that frame, its load and the surplus is one of the search.
+  pub search-ends : {G F L x e : ℕ} → Carries (length heads / 3) (λ i. getD heads (3 * i) 0) (λ i. getD weight i 0) G F → F ≤ max-ticks
+      → L ≡ load (works-of heads times q s room) F → L ≤ F → x ≡ sumTo (graph-surplus F heads weight) (length heads / 3) → End F L x e
+      → SearchEnd (works-of heads times q s room) e
+  search-ends {F = F} m h a l b k = record {
+    high = le-trans (k .high) h;
+    enough = end-enough (works-of heads times q s room) (carries-all m) (rw a at l) (rw (a, b ∙ surplus-slack F) at k);
+  }
+
+-- What the search up to the end answers is the answer.
+pub end-answers : {ws : Works} {e : ℕ} → SearchEnd ws e → (r : Lateness) → SearchAnswer ws e r → LateAnswer ws r
+end-answers k (At t) w = w
+end-answers k Never w = k .enough w

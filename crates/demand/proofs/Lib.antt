@@ -4,5 +4,7 @@ pub mod Costs
 pub mod Multiples
 pub mod Writes
 pub mod TaskLists
+pub mod Busy
 pub mod End
-pub mod Rises
+pub mod Pieces
+pub mod Search

@@ -53,6 +53,10 @@ module _ {heads times q s : List ℕ} {room i end v : ℕ} (a : Walk heads times
     pub place-fits : room * i + v < 2 ^ 64
     place-fits = omega (arith, row-at-most (a .lent) (a .graph), actor, graph-bounded .actors)
 
+    -- So do the bytes before it.
+    pub place-bytes : (room * i + v) * 8 < 2 ^ 64
+    place-bytes = omega (arith, row-at-most (a .lent) (a .graph), actor, graph-bounded .actors)
+
     -- The place of actor v is there.
     pub place-there : There times q s (room * i + v)
     place-there = record {

@@ -11,10 +11,11 @@ pub record Added (f : ℕ → ℕ) (x y n : ℕ) : Type 0 where
   pub fits : x + y < 2 ^ 64
   pub sum : x + y ≡ sumTo f (n + 1)
 
-step : (f : ℕ → ℕ) (n : ℕ) → sumTo f (n + 1) ≡ sumTo f n + f n
+-- One term more.
+pub next-term : (f : ℕ → ℕ) (n : ℕ) → sumTo f (n + 1) ≡ sumTo f n + f n
 unfolding sumTo
-step f n = rw add-one
+next-term f n = rw add-one
 
 -- The next term is added, where the sum with it fits.
 pub added : (f : ℕ → ℕ) {x y n : ℕ} → sumTo f (n + 1) < 2 ^ 64 → x ≡ sumTo f n → y ≡ f n → Added f x y n
-added f {n = n} h a b = let e = step f n in record { term = omega arith; fits = omega arith; sum = omega arith }
+added f {n = n} h a b = let e = next-term f n in record { term = omega arith; fits = omega arith; sum = omega arith }

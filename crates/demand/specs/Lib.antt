@@ -1,4 +1,5 @@
 pub mod Lent
 pub mod Answers
 pub mod Written
-pub mod Rises
+pub mod Search
+pub mod Pieces

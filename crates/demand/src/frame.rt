@@ -12,7 +12,7 @@ use units::SomeTicks;
 use units::Ticks;
 
 // The least common multiple of a and b, found among the multiples of the larger, or that it is above the bound.
-fn common(a: Ticks, b: Ticks) -> SomeTicks
+pub fn common(a: Ticks, b: Ticks) -> SomeTicks
     requires { ⌜ (0 < a .n) × (a .n ≤ max-ticks) × (0 < b .n) × (b .n ≤ max-ticks) ⌝ }
     ensures { λ r. ⌜ MultipleAnswer (a .n) (b .n) r ⌝ }
 {

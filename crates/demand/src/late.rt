@@ -1,27 +1,25 @@
-// 01, answer 21: the smallest late length. Demand only grows where some graph's blocks due do, so the walk goes from one such
-// rise to the next, adding what rises. No length from `end` on can be late. A graph that asks for no time is left out.
+// 01, answer 21: the smallest late length. No length from `end` on can be late. The search takes the lengths below it window by
+// window, each from its end down: where demand at a length is h and no more, no length from h on to it is late, so the next look is
+// below h. From the first late length found the windows halve what is left below it.
 ghost use mathlib.Core.Path.{_≡_};
-ghost use Prim.Native.Nat.{_+_, _*_, _-_, _/_, _^_, _<_, _≤_, min, max};
+ghost use Prim.Native.Nat.{ℕ, _+_, _*_, _-_, _/_, _<_, _≤_, min};
 ghost use lib.ListN.{length, getD};
 ghost use Rattle.sdf.specs.Sum.{sumTo};
 ghost use Rattle.units.specs.Bounds.{max-ticks};
-ghost use Rattle.edf.specs.Demand.{cost, load as load-of};
-ghost use Rattle.edf.specs.Frame.{Frame};
-ghost use Rattle.demand.specs.Lent.{work-at, works-of, Lent, There};
+ghost use Rattle.edf.specs.Demand.{load as load-of};
+ghost use Rattle.edf.specs.Frame.{CommonMultiple, Frame};
+ghost use Rattle.demand.specs.Lent.{works-of, Lent};
 ghost use Rattle.demand.specs.Answers.{LateAnswer};
-ghost use Rattle.demand.specs.Rises.{Knee, Weighed, Shares, graph-surplus, End, FirstRise, Started, Rises, WalkAnswer};
+ghost use Rattle.demand.specs.Pieces.{Pieces};
+ghost use Rattle.demand.specs.Search.{Weighed, Shares, busy-period, Carries, graph-surplus, End, SearchEnd, SettleAnswer, SearchAnswer};
 use super::Lateness;
-use super::length::actors;
-use super::length::graph_cost;
+use super::frame::common;
+use super::frame::frame_load;
 use super::length::iteration_time;
-use units::Firings;
+use super::piece::blank;
+use super::piece::look;
+use units::SomeTicks;
 use units::Ticks;
-
-// What a turn of the walk finds: demand at its length, and the next length at which demand may rise.
-struct Turn {
-    demand: Ticks,
-    next: Ticks,
-}
 
 fn sooner(a: Ticks, b: Ticks) -> Ticks
     ensures { λ r. ⌜ r .n ≡ min (a .n) (b .n) ⌝ }
@@ -32,62 +30,87 @@ fn sooner(a: Ticks, b: Ticks) -> Ticks
     b
 }
 
-fn more(a: Firings, b: Firings) -> Firings
-    ensures { λ r. ⌜ r .n ≡ max (a .n) (b .n) ⌝ }
-{
-    if a.count() < b.count() {
-        return b;
-    }
-    a
-}
-
-// After how many blocks the actor at that place has used up its skip; one that takes no time has at once.
-fn used_up(times: &[u64], q: &[u64], s: &[u64], at: usize) -> Firings
-    requires { ⌜ There (now times) (now q) (now s) at × (0 < getD (now q) at 0) × (getD (now s) at 0 + getD (now q) at 0 < 2 ^ 64) ⌝ }
-    ensures { λ r. ⌜ (0 < getD (now (times .entry)) at 0 → getD (now (s .entry)) at 0 ≤ r .n * getD (now (q .entry)) at 0) ⌝ }
-{
-    if times[at] == 0 {
-        return Firings::of(0);
-    }
-    Firings::of((s[at] + (q[at] - 1)) / q[at])
-}
-
-// From so many blocks due on each further one costs graph i a whole iteration.
-fn knee_of(heads: &[u64], times: &[u64], q: &[u64], s: &[u64], room: usize, i: usize) -> Firings
-    requires { ⌜ Lent (now heads) (now times) (now q) (now s) room × (i < length (now heads) / 3) ⌝ }
-    ensures { λ r. ⌜ Knee (work-at (now (heads .entry)) (now (times .entry)) (now (q .entry)) (now (s .entry)) room i) (r .n) ⌝ }
-{
-    let end = actors(heads, i);
-    let first = room * i;
-    let mut knee = Firings::of(0);
-    let mut v = 0;
-    while v < end {
-        knee = more(knee, used_up(times, q, s, first + v));
-        v += 1;
-    }
-    knee
-}
-
-// Each graph's weight, the time of its iteration, and its knee.
-fn weigh(
-    heads: &[u64],
-    times: &[u64],
-    q: &[u64],
-    s: &[u64],
-    room: usize,
-    weight: &mut [u64],
-    knee: &mut [u64],
-)
-    requires { ⌜ Lent (now heads) (now times) (now q) (now s) room × (length (now heads) / 3 ≤ length (now weight)) × (length (now heads) / 3 ≤ length (now knee)) ⌝ }
-    ensures { λ _. ⌜ Weighed (works-of (now (heads .entry)) (now (times .entry)) (now (q .entry)) (now (s .entry)) room) (now (weight .exit)) (now (knee .exit)) ⌝ }
+// Each graph's weight, the time of its iteration.
+fn weigh(heads: &[u64], times: &[u64], q: &[u64], s: &[u64], room: usize, weight: &mut [u64])
+    requires { ⌜ Lent (now heads) (now times) (now q) (now s) room × (length (now heads) / 3 ≤ length (now weight)) ⌝ }
+    ensures { λ _. ⌜ Weighed (works-of (now (heads .entry)) (now (times .entry)) (now (q .entry)) (now (s .entry)) room) (now (weight .exit)) ⌝ }
 {
     let n = heads.len() / 3;
     let mut i = 0;
     while i < n {
         weight[i] = iteration_time(heads, times, q, s, room, i).count();
-        knee[i] = knee_of(heads, times, q, s, room, i).count();
         i += 1;
     }
+}
+
+// Whether some graph's iteration takes no time. Only the time of the search hangs on it.
+fn idle(weight: &[u64], n: usize) -> bool
+    requires { ⌜ n ≤ length (now weight) ⌝ }
+{
+    let mut i = 0;
+    while i < n {
+        if weight[i] == 0 {
+            return true;
+        }
+        i += 1;
+    }
+    false
+}
+
+// The period of graph i, or 1 where its iteration takes no time.
+fn busy_period(heads: &[u64], weight: &[u64], i: usize) -> Ticks
+    requires { ⌜ (i < length (now heads) / 3) × (length (now heads) / 3 ≤ length (now weight)) ⌝ }
+    ensures { λ r. ⌜ r .n ≡ busy-period (now (heads .entry)) (now (weight .entry)) i ⌝ }
+{
+    if weight[i] == 0 {
+        return Ticks::of(1);
+    }
+    Ticks::of(heads[3 * i])
+}
+
+// A graph whose iteration takes no time adds nothing to demand at any length, but its period may stretch the frame: the search
+// needs the frame of the others alone.
+fn busy(heads: &[u64], weight: &[u64], frame: Ticks) -> Ticks
+    requires { ⌜ Shares (frame .n) (now heads) (now weight) × CommonMultiple (length (now heads) / 3) (λ i. getD (now heads) (3 * i) 0) (frame .n) ⌝ }
+    ensures { λ r. ⌜ Carries (length (now (heads .entry)) / 3) (λ i. getD (now (heads .entry)) (3 * i) 0) (λ i. getD (now (weight .entry)) i 0) (frame .n) (r .n) ⌝ }
+{
+    let n = heads.len() / 3;
+    if !idle(weight, n) {
+        return frame;
+    }
+    let mut so_far = Ticks::of(1);
+    let mut i = 0;
+    while i < n {
+        let next = common(so_far, busy_period(heads, weight, i));
+        match next {
+            SomeTicks::Outside => return frame,
+            SomeTicks::Within(m) => {
+                so_far = m;
+            }
+        }
+        i += 1;
+    }
+    so_far
+}
+
+// The load of the frame of the search, which most often is the frame itself.
+fn busy_load(
+    heads: &[u64],
+    times: &[u64],
+    q: &[u64],
+    s: &[u64],
+    room: usize,
+    frame: Ticks,
+    load: Ticks,
+    span: Ticks,
+) -> Ticks
+    requires { ⌜ Lent (now heads) (now times) (now q) (now s) room × (span .n ≤ max-ticks) × (load .n ≡ load-of (works-of (now heads) (now times) (now q) (now s) room) (frame .n)) ⌝ }
+    ensures { λ r. ⌜ r .n ≡ load-of (works-of (now (heads .entry)) (now (times .entry)) (now (q .entry)) (now (s .entry)) room) (span .n) ⌝ }
+{
+    if span.count() == frame.count() {
+        return load;
+    }
+    frame_load(heads, times, q, s, room, span)
 }
 
 // By how much frame × demand of graph i may be above its share × length.
@@ -135,139 +158,117 @@ fn end_of(frame: Ticks, load: Ticks, surplus: u64) -> Ticks
     sooner(frame, Ticks::of((surplus - f) / (f - l) + 1))
 }
 
-// The first rise of graph i.
-fn first_rise(heads: &[u64], weight: &[u64], end: Ticks, i: usize) -> Ticks
-    requires { ⌜ (i < length (now heads) / 3) × (i < length (now weight)) ⌝ }
-    ensures { λ r. ⌜ FirstRise (getD (now (weight .entry)) i 0) (getD (now (heads .entry)) (3 * i + 1) 0) (end .n) (r .n) ⌝ }
-{
-    if weight[i] == 0 {
-        return end;
-    }
-    Ticks::of(heads[3 * i + 1])
-}
-
-// The walk starts with no block due. Returns the first rise below `end`, or `end`.
-fn start(heads: &[u64], weight: &[u64], end: Ticks, next: &mut [u64], blocks: &mut [u64]) -> Ticks
-    requires { ⌜ (length (now heads) / 3 ≤ length (now weight)) × (length (now heads) / 3 ≤ length (now next)) × (length (now heads) / 3 ≤ length (now blocks)) ⌝ }
-    ensures { λ r. ⌜ Started (now (heads .entry)) (now (weight .entry)) (end .n) (r .n) (now (next .exit)) (now (blocks .exit)) ⌝ }
-{
-    let n = heads.len() / 3;
-    let mut least = end;
-    let mut i = 0;
-    while i < n {
-        let at = first_rise(heads, weight, end, i);
-        next[i] = at.count();
-        blocks[i] = 0;
-        least = sooner(least, at);
-        i += 1;
-    }
-    least
-}
-
-// What graph i asks more for one block due more than k.
-fn rise(
+// The same for the sheet, by the frame that the search needs.
+fn search_end(
     heads: &[u64],
     times: &[u64],
     q: &[u64],
     s: &[u64],
     room: usize,
+    frame: Ticks,
+    load: Ticks,
     weight: &[u64],
-    knee: &[u64],
-    i: usize,
-    k: Firings,
 ) -> Ticks
-    requires { ⌜ Lent (now heads) (now times) (now q) (now s) room × Weighed (works-of (now heads) (now times) (now q) (now s) room) (now weight) (now knee) × (i < length (now heads) / 3) × (k .n < max-ticks) ⌝ }
-    ensures { λ r. ⌜ cost (work-at (now (heads .entry)) (now (times .entry)) (now (q .entry)) (now (s .entry)) room i) (k .n + 1) ≡ cost (work-at (now (heads .entry)) (now (times .entry)) (now (q .entry)) (now (s .entry)) room i) (k .n) + r .n ⌝ }
+    requires { ⌜ Lent (now heads) (now times) (now q) (now s) room × CommonMultiple (length (now heads) / 3) (λ i. getD (now heads) (3 * i) 0) (frame .n) × (frame .n ≤ max-ticks) × (load .n ≡ load-of (works-of (now heads) (now times) (now q) (now s) room) (frame .n)) × (load .n ≤ frame .n) ⌝ }
+    requires { ⌜ Weighed (works-of (now heads) (now times) (now q) (now s) room) (now weight) ⌝ }
+    ensures { λ r. ⌜ SearchEnd (works-of (now (heads .entry)) (now (times .entry)) (now (q .entry)) (now (s .entry)) room) (r .n) ⌝ }
 {
-    if knee[i] <= k.count() {
-        return Ticks::of(weight[i]);
-    }
-    let before = graph_cost(heads, times, q, s, room, i, k);
-    let after = graph_cost(heads, times, q, s, room, i, Firings::of(k.count() + 1));
-    Ticks::of(after.count() - before.count())
+    let span = busy(heads, weight, frame);
+    let share = busy_load(heads, times, q, s, room, frame, load, span);
+    end_of(span, share, surplus_of(heads, weight, span))
 }
 
-// A turn of the walk at length t, where the graphs asked for `demand` before it.
-fn step(
-    heads: &[u64],
-    times: &[u64],
-    q: &[u64],
-    s: &[u64],
-    room: usize,
-    weight: &[u64],
-    knee: &[u64],
-    end: Ticks,
-    t: Ticks,
-    demand: Ticks,
-    next: &mut [u64],
-    blocks: &mut [u64],
-) -> Turn
-    requires { ⌜ Lent (now heads) (now times) (now q) (now s) room × Weighed (works-of (now heads) (now times) (now q) (now s) room) (now weight) (now knee) × (t .n < end .n) × (end .n ≤ max-ticks) × Rises (works-of (now heads) (now times) (now q) (now s) room) (end .n) (t .n) (t .n) (demand .n) (now next) (now blocks) ⌝ }
-    ensures { λ r. ⌜ (t .n < r .next .n) × Rises (works-of (now (heads .entry)) (now (times .entry)) (now (q .entry)) (now (s .entry)) room) (end .n) (t .n) (r .next .n) (r .demand .n) (now (next .exit)) (now (blocks .exit)) ⌝ }
+// The first window: twice the smallest deadline. Only the time of the search hangs on it.
+fn first_window(heads: &[u64]) -> Ticks
+    requires { ⌜ ((i : ℕ) → i < length (now heads) / 3 → 0 < getD (now heads) (3 * i + 1) 0) ⌝ }
+    ensures { λ r. ⌜ (0 < r .n) × (r .n ≤ 2 * max-ticks) ⌝ }
 {
     let n = heads.len() / 3;
-    let mut sum = demand;
-    let mut least = end;
+    let mut least = Ticks::of(Ticks::MAX);
     let mut i = 0;
     while i < n {
-        if next[i] == t.count() {
-            let k = blocks[i];
-            sum = sum.plus(rise(heads, times, q, s, room, weight, knee, i, Firings::of(k)));
-            blocks[i] = k + 1;
-            next[i] = t.count() + heads[3 * i];
-        }
-        least = sooner(least, Ticks::of(next[i]));
+        least = sooner(least, Ticks::of(heads[3 * i + 1]));
         i += 1;
     }
-    Turn {
-        demand: sum,
-        next: least,
-    }
+    Ticks::of(2 * least.count())
 }
 
-// The walk from rise to rise, up to the first late length or to `end`.
-fn walk(
+// The length up to which to settle next. Below a late length half of what is open; else as far again as is settled, and a window.
+fn window(low: Ticks, high: Ticks, found: bool, first: Ticks) -> Ticks
+    requires { ⌜ (low .n < high .n) × (high .n ≤ max-ticks) × (0 < first .n) × (first .n ≤ 2 * max-ticks) ⌝ }
+    ensures { λ r. ⌜ (low .n < r .n) × (r .n ≤ high .n) ⌝ }
+{
+    let l = low.count();
+    if found {
+        return Ticks::of(l + (high.count() - l + 1) / 2);
+    }
+    sooner(high, Ticks::of(2 * l + first.count()))
+}
+
+// Some late length below `high`, or that none from `low` on is.
+fn settle(
     heads: &[u64],
     times: &[u64],
     q: &[u64],
     s: &[u64],
     room: usize,
-    weight: &[u64],
-    knee: &[u64],
-    end: Ticks,
-    next: &mut [u64],
-    blocks: &mut [u64],
+    low: Ticks,
+    high: Ticks,
+    pieces: &mut [u64],
 ) -> Lateness
-    requires { ⌜ Lent (now heads) (now times) (now q) (now s) room × Weighed (works-of (now heads) (now times) (now q) (now s) room) (now weight) (now knee) × (end .n ≤ max-ticks) × (length (now heads) / 3 ≤ length (now next)) × (length (now heads) / 3 ≤ length (now blocks)) ⌝ }
-    ensures { λ r. ⌜ WalkAnswer (works-of (now (heads .entry)) (now (times .entry)) (now (q .entry)) (now (s .entry)) room) (end .n) r ⌝ }
+    requires { ⌜ Lent (now heads) (now times) (now q) (now s) room × (high .n ≤ max-ticks) × Pieces (works-of (now heads) (now times) (now q) (now s) room) (now pieces) ⌝ }
+    ensures { λ r. ⌜ SettleAnswer (works-of (now (heads .entry)) (now (times .entry)) (now (q .entry)) (now (s .entry)) room) (low .n) (high .n) r × Pieces (works-of (now (heads .entry)) (now (times .entry)) (now (q .entry)) (now (s .entry)) room) (now (pieces .exit)) ⌝ }
 {
-    let mut t = start(heads, weight, end, next, blocks);
-    let mut demand = Ticks::of(0);
-    while t.count() < end.count() {
-        let turn = step(
-            heads,
-            times,
-            q,
-            s,
-            room,
-            weight,
-            knee,
-            end,
-            t,
-            demand,
-            next,
-            blocks,
-        );
-        if t.count() < turn.demand.count() {
-            return Lateness::At(t);
+    let l = low.count();
+    let mut e = high.count();
+    while l < e {
+        let t = e - 1;
+        let h = look(heads, times, q, s, room, Ticks::of(t), pieces).count();
+        if t < h {
+            return Lateness::At(Ticks::of(t));
         }
-        demand = turn.demand;
-        t = turn.next;
+        e = h;
     }
     Lateness::Never
 }
 
-// The smallest late length; all slices but the first four are scratch, a place for each graph.
+// The smallest late length below `end`.
+fn search(
+    heads: &[u64],
+    times: &[u64],
+    q: &[u64],
+    s: &[u64],
+    room: usize,
+    end: Ticks,
+    first: Ticks,
+    pieces: &mut [u64],
+) -> Lateness
+    requires { ⌜ Lent (now heads) (now times) (now q) (now s) room × (end .n ≤ max-ticks) × (0 < first .n) × (first .n ≤ 2 * max-ticks) × Pieces (works-of (now heads) (now times) (now q) (now s) room) (now pieces) ⌝ }
+    ensures { λ r. ⌜ SearchAnswer (works-of (now (heads .entry)) (now (times .entry)) (now (q .entry)) (now (s .entry)) room) (end .n) r ⌝ }
+{
+    let mut low = Ticks::of(0);
+    let mut high = end;
+    let mut found = false;
+    while low.count() < high.count() {
+        let mid = window(low, high, found, first);
+        let settled = settle(heads, times, q, s, room, low, mid, pieces);
+        match settled {
+            Lateness::At(t) => {
+                high = t;
+                found = true;
+            }
+            Lateness::Never => {
+                low = mid;
+            }
+        }
+    }
+    if found {
+        return Lateness::At(high);
+    }
+    Lateness::Never
+}
+
+// The smallest late length. Scratch: `weight`, a place for each graph, and `pieces`, eight.
 pub fn late(
     heads: &[u64],
     times: &[u64],
@@ -277,15 +278,15 @@ pub fn late(
     frame: Ticks,
     load: Ticks,
     weight: &mut [u64],
-    knee: &mut [u64],
-    next: &mut [u64],
-    blocks: &mut [u64],
+    pieces: &mut [u64],
 ) -> Lateness
     requires { ⌜ Lent (now heads) (now times) (now q) (now s) room × Frame (length (now heads) / 3) (λ i. getD (now heads) (3 * i) 0) (frame .n) × (frame .n ≤ max-ticks) × (load .n ≡ load-of (works-of (now heads) (now times) (now q) (now s) room) (frame .n)) × (load .n ≤ frame .n) ⌝ }
-    requires { ⌜ (length (now heads) / 3 ≤ length (now weight)) × (length (now heads) / 3 ≤ length (now knee)) × (length (now heads) / 3 ≤ length (now next)) × (length (now heads) / 3 ≤ length (now blocks)) ⌝ }
+    requires { ⌜ (length (now heads) / 3 ≤ length (now weight)) × (8 * (length (now heads) / 3) ≤ length (now pieces)) ⌝ }
     ensures { λ r. ⌜ LateAnswer (works-of (now (heads .entry)) (now (times .entry)) (now (q .entry)) (now (s .entry)) room) r ⌝ }
 {
-    weigh(heads, times, q, s, room, weight, knee);
-    let end = end_of(frame, load, surplus_of(heads, weight, frame));
-    walk(heads, times, q, s, room, weight, knee, end, next, blocks)
+    weigh(heads, times, q, s, room, weight);
+    let end = search_end(heads, times, q, s, room, frame, load, weight);
+    let first = first_window(heads);
+    blank(heads, times, q, s, room, pieces);
+    search(heads, times, q, s, room, end, first, pieces)
 }

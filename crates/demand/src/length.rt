@@ -65,7 +65,7 @@ pub fn graph_cost(
 }
 
 // The blocks of graph i due in a length.
-fn graph_blocks(heads: &[u64], i: usize, length: Ticks) -> Firings
+pub fn graph_blocks(heads: &[u64], i: usize, length: Ticks) -> Firings
     requires { ⌜ (i < lib.ListN.length (now heads) / 3) × (0 < getD (now heads) (3 * i) 0) × (length .n ≤ max-ticks) ⌝ }
     ensures { λ r. ⌜ r .n ≡ due (getD (now (heads .entry)) (3 * i) 0) (getD (now (heads .entry)) (3 * i + 1) 0) (length .n) ⌝ }
 {

@@ -3,6 +3,7 @@
 use units::Ticks;
 
 pub mod length; // demand at a length
+pub mod piece; // the same, faster, at many lengths
 pub mod frame; // frame and frame load
 pub mod late; // the smallest late length
 pub mod tasks; // task list

@@ -1,28 +1,30 @@
 -- 01, Balanced, as the engine finds it: numbers grow along the channels from the input, every balanced vector stays a whole
 -- multiple of them, and where every actor has a number they are the repetition vector or there is none.
 use mathlib.Core.Path.{_≡_, refl, sym, ap, subst, _∙_}
-use mathlib.Core.Bool.{Bool, true, false}
+use mathlib.Core.Bool.{Bool, true, false, cond, true≢false, _||_}
 use mathlib.Core.Logic.{⊎-elim, _≢_, _↔_}
-use mathlib.Core.List.{List}
+use mathlib.Core.List.{List, []}
 use Prim.Native.Nat.{ℕ, _+_, _*_, _-_, _/_, _%_, _^_, _<_, _≤_, _∣_}
-use native.Mathlib.Nat.{le-refl, lt-of-le-of-lt, mul-assoc, one-mul, eq-zero-or-pos, mul-pos, mul-le-mul, mul-le-mul-right, le-mul-of-pos-right, eq-of-mul-eq-mul-left, eq-of-mul-eq-mul-right, mod-lt, add-mod, mod-eq-sub-div-mul, dvd-sub, dvd-mul-left, dvd-mul-right, dvd-mul-left-of-dvd, dvd-of-mod-eq-zero, mod-eq-zero-of-dvd, div-mul-cancel}
+use native.Mathlib.Nat.{le-refl, lt-of-le-of-lt, mul-assoc, one-mul, eq-zero-or-pos, mul-pos, mul-le-mul, mul-le-mul-right, le-mul-of-pos-right, eq-of-mul-eq-mul-left, eq-of-mul-eq-mul-right, mod-lt, mod-eq-of-lt, mod-eq-sub-mod, add-mod, mod-eq-sub-div-mul, dvd-sub, dvd-mul-left, dvd-mul-right, dvd-mul-left-of-dvd, dvd-of-mod-eq-zero, mod-eq-zero-of-dvd, div-mul-cancel}
 use native.Mathlib.Omega.{arith}
 use borrow.Author.Count.{below-more}
-use lib.ListN.{length, set}
+use lib.ListN.{length, getD, set, length-set}
 use lib.Seq.{getD-set-same, getD-set-other}
 use Rattle.units.specs.Bounds.{max-rate, max-repetition}
-use Rattle.sdf.specs.Graph.{Channel, Graph, Sound, Reached}
+use Rattle.sdf.specs.Graph.{Channel, Graph, Sound, Along, Reaches}
 use Rattle.sdf.specs.Balance.{Balanced, AtMost, Balances}
 use Rattle.sdf.proofs.Numbers.{eq-or-ne, sub-mul}
 use Rattle.sdf.proofs.Sum.{sum-mono}
 use Rattle.sdf.proofs.Settle.{put, put-same, put-other, put-keeps, sum-lower}
 use Rattle.sdf.proofs.Balance.{settled, past-bound}
-use Rattle.sdf.proofs.Reach.{reach-closed}
+use Rattle.sdf.proofs.Reach.{reach-closed, reach-step}
 use Rattle.graph.specs.Flat.{vector}
-use Rattle.graph.specs.Decides.{Decides}
-use Rattle.graph.specs.Repetition.{Numbered, LeastFactor, Multiples, Grown, unnumbered, Follows, Grows, Even, Equal, Repetition-answer}
+use Rattle.graph.specs.Reach.{AllFrom, Within}
+use Rattle.graph.specs.Links.{Chain}
+use Rattle.graph.specs.Repetition.{Numbered, LeastFactor, Multiples, Grown, unnumbered, Follows, Looked, Given, Passes, Even, Equal, Repeats}
 use Rattle.graph.specs.Read.{Read}
 use Rattle.graph.specs.declared.repetition.Growth.the-variants.{Still, More}
+use Rattle.graph.proofs.Chains.{Walked, walked-start, walked-turn}
 use Rattle.graph.proofs.Places.{stored}
 
 -- Firings within the bound at a rate within it move fewer tokens than 64 bits hold.
@@ -55,6 +57,10 @@ factoring-turn {m} {c} {k} {rest} f n =
 -- What is left, and what is left of m, are below c.
 pub factoring-below : {m c k rest : ℕ} → Factoring m c k rest → (rest < c) × (m % c < c)
 factoring-below {m} {c} {k} f = (rw (f .leaves) (mod-lt (k * m) (omega arith)), mod-lt m (omega arith))
+
+-- What is left of a number below twice c: without a division.
+pub left-again : {n c : ℕ} → c ≤ n → n < 2 * c → n - c ≡ n % c
+left-again {n} {c} h l = sym (mod-eq-sub-mod h ∙ mod-eq-of-lt (omega arith))
 
 -- A number that leaves nothing is the least factor.
 pub factoring-end : {m c k rest : ℕ} → Factoring m c k rest → rest ≡ 0 → LeastFactor m c k
@@ -139,10 +145,20 @@ module _ {g : Graph} {c : ℕ} {e : Channel} {x : ℕ → ℕ} {k : ℕ} (i : Ex
   next-above : (y : ℕ → ℕ) → Next (g .actors) k e x y → AtMost g x y
   next-above y next v lv = ⊎-elim (λ (d : v ≡ e .head). omega (arith, ap x d)) (λ d. omega (arith, next .others v lv d, le-mul-of-pos-right (x v) (i .factor .positive))) (eq-or-ne v (e .head))
 
+  -- The input reaches the head by way of the tail.
+  next-within : (y : ℕ → ℕ) → Next (g .actors) k e x y → Within g (g .input) y
+  next-within y next v lv p =
+      let tail : Reaches g (g .input) (e .tail) = i .grown .within (e .tail) (i .read .tail) (i .given) in
+      let head : Reaches g (g .input) (e .head) = subst (λ (e : Channel). Reaches g (g .input) (e .head)) (i .read .is) (reach-step g (g .input) c (rw (i .read .is) tail) (i .within)) in
+      ⊎-elim (λ (d : v ≡ e .head). rw d head) (λ d. i .grown .within v lv (positive-factor (x v) k (omega (arith, next .others v lv d)))) (eq-or-ne v (e .head))
+
+  next-some : (y : ℕ → ℕ) → Next (g .actors) k e x y → 0 < y (e .head)
+  next-some y next = positive-factor (y (e .head)) (e .consume) (rw (next .head) (mul-pos (mul-pos (i .given) (i .factor .positive)) (i .read .produce .0)))
+
   next-fewer : (y : ℕ → ℕ) → Next (g .actors) k e x y → unnumbered g y < unnumbered g x
   unfolding unnumbered
   next-fewer y next =
-      let some : 0 < y (e .head) = positive-factor (y (e .head)) (e .consume) (rw (next .head) (mul-pos (mul-pos (i .given) (i .factor .positive)) (i .read .produce .0))) in
+      let some : 0 < y (e .head) = next-some y next in
       lt-of-le-of-lt
       (sum-mono (λ v. 1 - y v) (put (λ v. 1 - x v) (e .head) 0) (g .actors) (λ v lv. put-keeps (λ v n. 1 - y v ≤ n) (λ v. 1 - x v) (e .head) 0 (omega arith) v (omega (arith, next-above y next v lv))))
       (sum-lower (λ v. 1 - x v) (e .head) 0 (g .actors) (i .read .head) (omega arith))
@@ -180,76 +196,181 @@ module _ {g : Graph} {c : ℕ} {e : Channel} {x : ℕ → ℕ} {k : ℕ} (i : Ex
     pub past-head : max-repetition < n → ¬ Balances g max-repetition
     past-head m = past-next (vector (set s (e .head) n)) stored-next (e .head) (i .read .head) (rw stored-head m)
 
-    -- With the head's number stored, every balanced vector is again a multiple, and fewer actors are without a number.
-    pub extended : n ≤ max-repetition → Grown g (vector (set s (e .head) n)) × (unnumbered g (vector (set s (e .head) n)) < unnumbered g x)
-    extended b =
-        let y = vector (set s (e .head) n) in (
+    -- With the head's number stored, every balanced vector is again a multiple, and fewer actors are without a number. With its
+    -- mark too, the channels that were looked at still are, and this one is.
+    pub extended : (marks : List ℕ) → g .actors ≤ length marks → n ≤ max-repetition
+        → let y = vector (set s (e .head) n) in
+        let marks′ = vector (set marks (e .head) 1) in
+        Grown g y × (unnumbered g y < unnumbered g x) × ((d : ℕ) → Looked g x (vector marks) d → Looked g y marks′ d) × Looked g y marks′ c
+    extended marks marked b =
+        let y = vector (set s (e .head) n) in
+        let marks′ = vector (set marks (e .head) 1) in (
           record {
             input = omega (arith, i .grown .input, next-above y stored-next (g .input) (i .sound .input));
+            within = next-within y stored-next;
             bound = λ v lv. stored (λ _ n. n ≤ max-repetition) s (e .head) n (omega (arith, i .read .head)) b v (λ _. scaled v lv .1);
             multiple = next-multiples y stored-next;
           },
           next-fewer y stored-next,
+          λ d w l z p.
+              let tail = g .channel d .tail in
+              let head = g .channel d .head in
+              let other : tail ≢ e .head = λ same. omega (arith, ap marks′ same, getD-set-same marks (e .head) 1 0 (omega (arith, i .read .head))) in
+              let had : 0 < x tail = positive-factor (x tail) k (omega (arith, stored-next .others tail (i .sound .tail d l) other)) in
+              omega (arith, w l (omega (arith, getD-set-other marks (e .head) tail 1 0 other)) had, next-above y stored-next head (i .sound .head d l)),
+          λ l z p. rw (i .read .is) (next-some y stored-next),
         )
 
 module _ (g : Graph) (c : ℕ) (e : Channel) (is : g .channel c ≡ e) where
   -- The graph's channel follows if the channel read does.
-  pub follows : (q : List ℕ) → (0 < vector q (e .tail) → 0 < vector q (e .head)) → Follows g q c
-  follows q f = rw is f
+  pub follows : (x : ℕ → ℕ) → (0 < x (e .tail) → 0 < x (e .head)) → Follows g x c
+  follows x f = rw is f
 
   -- Both ends move as much on the graph's channel exactly if they do on the channel read.
   pub even : (x : ℕ → ℕ) → (x (e .tail) * e .produce ≡ x (e .head) * e .consume) ↔ Even g x c
   even x = (λ h. rw is h, λ h. rw is at h)
 
--- A pass has gone over the first c channels: some actor got a number, or nothing changed and each of these channels follows.
-abbrev pub Passing : Graph → ℕ → Bool → List ℕ → List ℕ → Type 0
-Passing g c true before now = Grows g Unit More before now
-Passing g c false before now = Grows g ((d : ℕ) → d < c → Follows g before d) Still before now
+-- Where nothing changed no number was given.
+pub given-none : {g : Graph} {q marks : List ℕ} → Grown g (vector q) → Given g false q marks q marks
+given-none grown = record { grown = grown; fewer = omega arith; looked = λ d w. w; still = λ _. (refl, refl) }
 
-module _ (g : Graph) (before now : List ℕ) where
-  -- A pass that starts with grown numbers has grown numbers.
-  pub passing-grown : (c : ℕ) (more : Bool) → Grown g (vector before) → Passing g c more before now → Grown g (vector now)
-  passing-grown c true grown p = p .0
-  passing-grown c false grown p = rw (p .0) grown
+given-again : {g : Graph} {more : Bool} {before flags now marks after left : List ℕ} (gave : Bool) → Given g more before flags now marks → Given g gave now marks after left
+    → Given g (gave || more) before flags after left
+given-again true p s = record {
+  grown = s .grown;
+  fewer = omega (arith, p .fewer, s .fewer);
+  looked = λ d w. s .looked d (p .looked d w);
+  still = λ e. absurd (true≢false e);
+}
+given-again false p s = record {
+  grown = s .grown;
+  fewer = omega (arith, p .fewer, s .fewer);
+  looked = λ d w. s .looked d (p .looked d w);
+  still = λ e. (s .still refl .0 ∙ p .still e .0, s .still refl .1 ∙ p .still e .1);
+}
 
-  -- A channel that is still leaves the pass where it was, one channel further.
-  pub passing-still : (c : ℕ) (more : Bool) (after : List ℕ) → Passing g c more before now → Grows g (Follows g now c) Still now after → Passing g (c + 1) more before after
-  passing-still c true after p s = rw (s .0) p
-  passing-still c false after p s = (s .0 ∙ p .0, below-more (Follows g before) c (p .1) (rw (p .0) at (s .1)))
+-- A walk along the channels out of v: those that it has passed are looked at.
+pub record Growing (g : Graph) (v at : ℕ) (more : Bool) (before flags now marks : List ℕ) : Type 0 where
+  pub same-length : length now ≡ length before
+  pub flags-length : length marks ≡ length flags
+  pub given : Given g more before flags now marks
+  pub walked : Walked (λ d. g .channel d .tail) v (g .channels) at (λ d. g .channel d .tail ≡ v → Looked g (vector now) (vector marks) d)
 
-  -- After a channel that gives a number the pass has given one.
-  pub passing-more : (c : ℕ) (more : Bool) (after : List ℕ) → Passing g c more before now → Grows g (Follows g now c) More now after → Passing g (c + 1) true before after
-  passing-more c true after p s = (s .0, omega (arith, p .1, s .1))
-  passing-more c false after p s = (s .0, rw (p .0) at (s .1))
+-- Before the first of them.
+pub growing-start : {g : Graph} {v at : ℕ} {q marks : List ℕ} → Grown g (vector q) → Chain (λ d. g .channel d .tail) v (g .channels) at → Growing g v at false q marks q marks
+growing-start grown chain = record { same-length = refl; flags-length = refl; given = given-none grown; walked = walked-start _ chain (λ d n e. absurd (n e)) }
 
-  -- A pass over all channels that gave no number changed nothing, and every channel follows.
-  pub passing-end : (c : ℕ) → g .channels ≤ c → Passing g c false before now → Grows g (Numbered g before) Still before now
-  passing-end c h p = (p .0, λ d l. p .1 d (omega arith))
+-- One channel more.
+pub growing-turn : {g : Graph} {v at next c : ℕ} {more : Bool} {before flags now marks after left : List ℕ} (gave : Bool) → Growing g v at more before flags now marks
+    → at ≡ c + 1 → Chain (λ d. g .channel d .tail) v c next → Given g gave now marks after left × Looked g (vector after) (vector left) c → length after ≡ length now → length left ≡ length marks
+    → Growing g v next (gave || more) before flags after left
+growing-turn gave p here chain s same kept = record {
+  same-length = same ∙ p .same-length;
+  flags-length = kept ∙ p .flags-length;
+  given = given-again gave (p .given) (s .0);
+  walked = walked-turn _ (p .walked) here chain (λ d l n e. absurd (n e)) (λ _. s .1) (λ d l w e. s .0 .looked d (w e));
+}
+
+-- At the end of the list.
+pub growing-end : {g : Graph} {v at : ℕ} {more : Bool} {before flags now marks : List ℕ} → at ≤ 0 → Growing g v at more before flags now marks
+    → Given g more before flags now marks × ((d : ℕ) → g .channel d .tail ≡ v → Looked g (vector now) (vector marks) d)
+growing-end h p = (p .given, λ d e l. p .walked .passed d (omega arith) l e l)
+
+-- A pass over the actors before v: if none got a number, none of them is marked.
+pub record Passing (g : Graph) (v : ℕ) (more : Bool) (before flags now marks : List ℕ) : Type 0 where
+  pub same-length : length now ≡ length before
+  pub flags-length : length marks ≡ length flags
+  pub grown : Grown g (vector now)
+  pub fewer : unnumbered g (vector now) + cond more 1 0 ≤ unnumbered g (vector before)
+  pub looked : (d : ℕ) → Looked g (vector now) (vector marks) d
+  pub still : more ≡ false → (now ≡ before) × ((w : ℕ) → w < v → getD marks w 0 ≡ 0)
+
+-- Before the first actor.
+pub passing-start : {g : Graph} {q marks : List ℕ} → Grown g (vector q) → ((d : ℕ) → Looked g (vector q) (vector marks) d) → Passing g 0 false q marks q marks
+passing-start grown looked = record { same-length = refl; flags-length = refl; grown = grown; fewer = omega arith; looked = looked; still = λ _. (refl, λ w l. omega arith) }
+
+module _ {g : Graph} {v : ℕ} {more : Bool} {before flags now marks : List ℕ} (p : Passing g v more before flags now marks) where
+  -- An actor without a mark.
+  pub passing-by : getD marks v 0 ≡ 0 → Passing g (v + 1) more before flags now marks
+  passing-by z = record {
+    same-length = p .same-length;
+    flags-length = p .flags-length;
+    grown = p .grown;
+    fewer = p .fewer;
+    looked = p .looked;
+    still = λ e. (p .still e .0, below-more (λ w. getD marks w 0 ≡ 0) v (p .still e .1) z);
+  }
+
+  -- An actor whose mark is taken off, and the channels out of it are looked at.
+  pub passing-turn : {after left : List ℕ} (gave : Bool) → v < length marks
+      → Given g gave now (set marks v 0) after left × ((d : ℕ) → g .channel d .tail ≡ v → Looked g (vector after) (vector left) d) → length after ≡ length now → length left ≡ length (set marks v 0)
+      → Passing g (v + 1) (gave || more) before flags after left
+  passing-turn {after} {left} gave room s same kept = record {
+    same-length = same ∙ p .same-length;
+    flags-length = kept ∙ length-set marks v 0 ∙ p .flags-length;
+    grown = s .0 .grown;
+    fewer = less gave (s .0);
+    looked = λ d. ⊎-elim (λ e. s .1 d e) (λ n. s .0 .looked d (λ l z. p .looked d l (omega (arith, getD-set-other marks v (g .channel d .tail) 0 0 n)))) (eq-or-ne (g .channel d .tail) v);
+    still = none gave (s .0);
+  }
+    where
+      less : (gave : Bool) → Given g gave now (set marks v 0) after left → unnumbered g (vector after) + cond (gave || more) 1 0 ≤ unnumbered g (vector before)
+      less true s = omega (arith, p .fewer, s .fewer)
+      less false s = omega (arith, p .fewer, s .fewer)
+
+      none : (gave : Bool) → Given g gave now (set marks v 0) after left → gave || more ≡ false → (after ≡ before) × ((w : ℕ) → w < v + 1 → getD left w 0 ≡ 0)
+      none true s e = absurd (true≢false e)
+      none false s e = (
+        s .still refl .0 ∙ p .still e .0,
+        λ w l. rw (s .still refl .1) (stored (λ w n. w < v + 1 → n ≡ 0) marks v 0 room (λ _. refl) w (λ d l. p .still e .1 w (omega (arith, d))) l),
+      )
+
+-- A pass over all actors that gave no number changed nothing, and every channel follows.
+pub passing-still : {g : Graph} {v : ℕ} {before flags now marks : List ℕ} → Sound g → g .actors ≤ v → Passing g v false before flags now marks → Passes g Still before now marks
+passing-still {g} sound h p =
+    let none = p .still refl in
+    (none .0, λ c l. rw (none .0) at (p .looked c l (none .1 (g .channel c .tail) (omega (arith, sound .tail c l)))))
+
+-- One that gave a number leaves fewer actors without.
+pub passing-more : {g : Graph} {v : ℕ} {before flags now marks : List ℕ} → Passing g v true before flags now marks → Passes g More before now marks
+passing-more p = (p .grown, omega (arith, p .fewer), p .looked)
 
 -- With 1 at the input and no other number, every balanced vector is a multiple.
 pub grown-start : (g : Graph) (q : List ℕ) → g .input < length q → ((v : ℕ) → v < g .actors → vector q v ≡ 0) → Grown g (vector (set q (g .input) 1))
+unfolding Along
 grown-start g q h none =
     record {
       input = rw (getD-set-same q (g .input) 1 0 h) (omega arith);
+      within = λ v lv. stored (λ v n. 0 < n → Reaches g (g .input) v) q (g .input) 1 h (λ _. ([], refl)) v (λ _ p. absurd (omega (arith, none v lv)));
       bound = λ v lv. stored (λ _ n. n ≤ max-repetition) q (g .input) 1 h (omega arith) v (λ _. omega (arith, none v lv));
       multiple = λ b e. (b (g .input), λ v lv. stored (λ v n. 0 < n → b v ≡ b (g .input) * n) q (g .input) 1 h (λ _. omega arith) v (λ _ p. omega (arith, none v lv)));
     }
 
--- A pass that is still leaves grown numbers, and no channel that does not follow.
-pub grown-still : (g : Graph) (before after : List ℕ) → Grown g (vector before) → Grows g (Numbered g before) Still before after → Grown g (vector after) × Numbered g after
-grown-still g before after grown s = rw (s .0) (grown, s .1)
+-- With its mark there: no channel comes from another actor with a number.
+pub looked-start : (g : Graph) (q marks : List ℕ) → g .input < length marks → Sound g → ((v : ℕ) → v < g .actors → vector q v ≡ 0)
+    → (d : ℕ) → Looked g (vector (set q (g .input) 1)) (vector (set marks (g .input) 1)) d
+looked-start g q marks room sound none d l z p =
+    let tail = g .channel d .tail in
+    let other : tail ≢ g .input = λ e. omega (arith, ap (vector (set marks (g .input) 1)) e, getD-set-same marks (g .input) 1 0 room) in
+    absurd (omega (arith, getD-set-other q (g .input) tail 1 0 other, none tail (sound .tail d l)))
 
--- Grown numbers that every channel follows stand at every actor: equal on every channel they are the repetition vector, else
--- no vector is balanced.
-pub grown-answer : (g : Graph) (q : List ℕ) (r : Bool) → Sound g → Reached g → Grown g (vector q) → Numbered g q → Decides r (Equal g (vector q)) → Repetition-answer g r q
-grown-answer g q r sound reached grown closed = go r
-  where
-    positive : (v : ℕ) → v < g .actors → 0 < vector q v
-    positive v lv = reach-closed g (λ v. 0 < vector q v) (g .input) v (grown .input) closed (reached v lv .0)
+module _ (g : Graph) (q : List ℕ) (grown : Grown g (vector q)) where
+  -- Grown numbers that every channel follows stand at every actor that the input reaches.
+  pub grown-reached : Numbered g (vector q) → AllFrom g (g .input) → (v : ℕ) → v < g .actors → 0 < vector q v
+  grown-reached closed all v lv = reach-closed g (λ v. 0 < vector q v) (g .input) v (grown .input) closed (all v lv)
 
-    go : (r : Bool) → Decides r (Equal g (vector q)) → Repetition-answer g r q
-    go true e = record { repetition = settled g (vector q) (multiples-below g (vector q) (grown .multiple)) (record { positive = positive; equal = e }); bound = grown .bound }
-    go false n = λ a. n (λ c l.
+  module _ (positive : (v : ℕ) → v < g .actors → 0 < vector q v) where
+    -- Where grown numbers stand at every actor, the input reaches every actor. Equal on every channel they are the repetition vector.
+    pub grown-equal : Equal g (vector q) → AllFrom g (g .input) × Repeats g q
+    grown-equal e = (
+      λ v lv. grown .within v lv (positive v lv),
+      record { repetition = settled g (vector q) (multiples-below g (vector q) (grown .multiple)) (record { positive = positive; equal = e }); bound = grown .bound },
+    )
+
+    -- And else no vector is balanced.
+    pub grown-unequal : Sound g → (¬ Equal g (vector q)) → ¬ Balances g max-repetition
+    grown-unequal sound n a =
+        n (λ c l.
         let b = a .0 in
         let j = grown .multiple b (a .1) .0 in
         let at : (v : ℕ) → v < g .actors → b v ≡ j * vector q v = λ v lv. grown .multiple b (a .1) .1 v lv (positive v lv) in

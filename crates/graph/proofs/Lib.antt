@@ -4,6 +4,9 @@ pub mod Vectors
 pub mod Places
 pub mod Marks
 pub mod Growth
+pub mod Chains
+pub mod Sweeps
 pub mod Firing
 pub mod Run
+pub mod Blocking
 pub mod Lowering

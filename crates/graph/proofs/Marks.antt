@@ -14,9 +14,7 @@ use Rattle.sdf.proofs.Reach.{reversed, reach-closed, reach-step, reaches-revers
 use Rattle.sdf.proofs.Settle.{put, put-same, put-keeps, sum-lower}
 use Rattle.sdf.proofs.Sum.{sum-ext}
 use Rattle.graph.specs.Flat.{graph-of, vector}
-use Rattle.graph.specs.Decides.{Decides}
-use Rattle.graph.specs.Reach.{sided, AllFrom, unmarked, Within, Closed, Passed}
-use Rattle.graph.proofs.Decided.{decides-same, decided-yes, decided-no}
+use Rattle.graph.specs.Reach.{sided, turn, AllFrom, unmarked, Within, Leads, Passed}
 use Rattle.graph.proofs.Ends.{Ends, channel-ends, reversed-ends}
 use Rattle.graph.proofs.Vectors.{vector-set}
 
@@ -40,45 +38,58 @@ put-map f x v n w = go (eqb w v)
     go true = refl
     go false = refl
 
--- A mark where there was none leaves fewer actors without.
-mark-fewer : (g : Graph) (marks : ℕ → ℕ) (v : ℕ) → v < g .actors → marks v ≡ 0 → unmarked g (put marks v 1) < unmarked g marks
+-- A higher mark leaves less to mark.
+mark-fewer : (g : Graph) (marks : ℕ → ℕ) (v m : ℕ) → v < g .actors → marks v < m → m ≤ 2 → unmarked g (put marks v m) < unmarked g marks
 unfolding unmarked
-mark-fewer g marks v l z =
+mark-fewer g marks v m l low high =
     omega (
       arith,
-      sum-ext (λ w. 1 - put marks v 1 w) (put (λ w. 1 - marks w) v 0) (g .actors) (λ w _. put-map (λ n. 1 - n) marks v 1 w),
-      sum-lower (λ w. 1 - marks w) v 0 (g .actors) l (omega (arith, z)),
+      sum-ext (λ w. 2 - put marks v m w) (put (λ w. 2 - marks w) v (2 - m)) (g .actors) (λ w _. put-map (λ n. 2 - n) marks v m w),
+      sum-lower (λ w. 2 - marks w) v (2 - m) (g .actors) l (omega (arith, low, high)),
     )
 
+-- From side 1 the turns go down.
+pub turn-against : (side m c : ℕ) → side ≢ 0 → turn side m c ≡ m - 1 - c
+turn-against zero m c n = absurd (n refl)
+turn-against (suc k) m c n = refl
+
+-- Each turn has a channel, and each channel a turn: its own number's.
+pub turn-within : (side m c : ℕ) → c < m → (turn side m c < m) × (turn side m (turn side m c) ≡ c)
+turn-within zero m c l = (l, refl)
+turn-within (suc k) m c l = (omega arith, omega arith)
+
 -- A mark list on its way through a pass.
-pub record Passing (g : Graph) (c : ℕ) (more : Bool) (before now : List ℕ) : Type 0 where
+pub record Passing (g : Graph) (pick : ℕ → ℕ) (c : ℕ) (more : Bool) (before now : List ℕ) : Type 0 where
   pub same-length : length now ≡ length before
-  pub passed : Passed g c more (vector before) (vector now)
+  pub passed : Passed g pick c more (vector before) (vector now)
 
 -- Before the first channel nothing is added.
-pub passing-start : (g : Graph) (marks : List ℕ) → Passing g 0 false marks marks
-passing-start g marks =
+pub passing-start : (g : Graph) (pick : ℕ → ℕ) (marks : List ℕ) → Passing g pick 0 false marks marks
+passing-start g pick marks =
     record {
       same-length = refl;
       passed = record { kept = λ v m. m; within = λ u w. w; fewer = omega arith; closed = λ e c l. absurd (omega arith) };
     }
 
-module _ {g : Graph} {n c near far : ℕ} (ends : Ends g n c near far) {more : Bool} {before now : List ℕ} (p : Passing g c more before now) where
-  mark : 0 < getD now near 0 → getD now far 0 ≡ 0 → Passed g (c + 1) true (vector before) (put (vector now) far 1)
-  mark m z =
-      let from : (u : ℕ) → Reaches g u near → Reaches g u far = λ u r. subst (Reaches g u) (ends .head) (reach-step g u c (rw (ends .tail) r) (ends .channel)) in
-      let a : near < g .actors = rw (← ends .tail) (ends .sound .tail c (ends .channel)) in
-      let b : far < g .actors = rw (← ends .head) (ends .sound .head c (ends .channel)) in
-      record {
-        kept = λ v m. put-keeps (λ _ n. 0 < n) (vector now) far 1 (omega arith) v (p .passed .kept v m);
-        within = λ u w v k. put-keeps (λ v n. 0 < n → Reaches g u v) (vector now) far 1 (λ _. from u (p .passed .within u w near a m)) v (p .passed .within u w v k);
-        fewer = omega (arith, p .passed .fewer, mark-fewer g (vector now) far b z);
-        closed = λ e. absurd (true≢false e);
-      }
+-- What reaches all marked actors reaches the far end of a channel from one of them.
+pub reach-far : {g : Graph} {n c near far : ℕ} {marks : ℕ → ℕ} → Ends g n c near far → 0 < marks near → (u : ℕ) → Within g u marks → Reaches g u far
+reach-far {g} {c = c} {near} ends m u w =
+    let a : near < g .actors = rw (← ends .tail) (ends .sound .tail c (ends .channel)) in
+    subst (Reaches g u) (ends .head) (reach-step g u c (rw (ends .tail) (w near a m)) (ends .channel))
 
-module _ {g : Graph} {n c near far : ℕ} (ends : Ends g n c near far) {more more' : Bool} {before now next : List ℕ} (p : Passing g c more before now) where
+-- A higher mark on an actor in reach.
+pub passed-mark : {g : Graph} {pick pick' : ℕ → ℕ} {n n' : ℕ} {more : Bool} {before now : ℕ → ℕ} → Passed g pick n more before now → (v m : ℕ) → v < g .actors → now v < m → m ≤ 2
+    → ((u : ℕ) → Within g u now → Reaches g u v) → Passed g pick' n' true before (put now v m)
+passed-mark {g} {now = now} p v m l low high reach = record {
+  kept = λ w k. put-keeps (λ _ n. 0 < n) now v m (omega arith) w (p .kept w k);
+  within = λ u i w k. put-keeps (λ w n. 0 < n → Reaches g u w) now v m (λ _. reach u (p .within u i)) w (p .within u i w k);
+  fewer = omega (arith, p .fewer, mark-fewer g now v m l low high);
+  closed = λ e. absurd (true≢false e);
+}
+
+module _ {g : Graph} {pick : ℕ → ℕ} {n c near far : ℕ} (ends : Ends g n (pick c) near far) {more more' : Bool} {before now next : List ℕ} (p : Passing g pick c more before now) where
   -- A channel that leads to no new actor adds nothing.
-  pub passing-idle : (getD now near 0 ≡ 0) ⊎ (getD now far 0 ≢ 0) → next ≡ now → more' ≡ more → Passing g (c + 1) more' before next
+  pub passing-idle : (getD now near 0 ≡ 0) ⊎ (getD now far 0 ≢ 0) → next ≡ now → more' ≡ more → Passing g pick (c + 1) more' before next
   passing-idle h e f =
       let old : 0 < getD now near 0 → 0 < getD now far 0 = λ m. ⊎-elim (λ z. absurd (omega arith)) pos-of-ne-zero h in
       rw (e, f) (record {
@@ -87,55 +98,49 @@ module _ {g : Graph} {n c near far : ℕ} (ends : Ends g n c near far) {more mor
       })
 
   -- A channel from a marked actor to one that is not: that one is marked.
-  pub passing-mark : n ≤ length before → getD now near 0 ≢ 0 → getD now far 0 ≡ 0 → next ≡ set now far 1 → more' ≡ true → Passing g (c + 1) more' before next
+  pub passing-mark : n ≤ length before → getD now near 0 ≢ 0 → getD now far 0 ≡ 0 → next ≡ set now far 1 → more' ≡ true → Passing g pick (c + 1) more' before next
   passing-mark room m z e f =
       rw (e, f) (record {
         same-length = simp length-set (p .same-length);
-        passed = subst⁻¹ (Passed g (c + 1) true (vector before)) (vector-set now far 1 (omega (arith, ends .far-below, p .same-length))) (mark ends p (pos-of-ne-zero m) z);
+        passed = subst⁻¹ (Passed g pick (c + 1) true (vector before)) (vector-set now far 1 (omega (arith, ends .far-below, p .same-length)))
+            (passed-mark (p .passed) far 1 (rw (← ends .head) (ends .sound .head (pick c) (ends .channel))) (omega arith) (omega arith) (reach-far ends (pos-of-ne-zero m)));
       })
 
 -- After the last channel.
-pub passing-end : {g : Graph} {m c : ℕ} {more : Bool} {before now : List ℕ} → m ≤ c → Passing g c more before now → Passed g m more (vector before) (vector now)
+pub passing-end : {g : Graph} {pick : ℕ → ℕ} {m c : ℕ} {more : Bool} {before now : List ℕ} → m ≤ c → Passing g pick c more before now → Passed g pick m more (vector before) (vector now)
 passing-end l p = record { kept = p .passed .kept; within = p .passed .within; fewer = p .passed .fewer; closed = λ e d k. p .passed .closed e d (omega arith) }
 
--- Marks on the way: on `from` and on nothing that it does not reach; when a pass added none, closed under the channels.
-pub record Spread (g : Graph) (from : ℕ) (more : Bool) (marks : ℕ → ℕ) : Type 0 where
+-- Marks on the way: on `from` and on nothing that it does not reach.
+pub record Spread (g : Graph) (from : ℕ) (marks : ℕ → ℕ) : Type 0 where
   pub start : 0 < marks from
   pub within : Within g from marks
-  pub closed : more ≡ false → Closed g (g .channels) marks
 
 module _ (side : ℕ) (g : Graph) {from : ℕ} where
   -- One mark, on `from`.
-  pub spread-start : (marks : List ℕ) → from < length marks → ((v : ℕ) → v < g .actors → getD marks v 0 ≡ 0) → Spread (sided side g) from true (vector (set marks from 1))
+  pub spread-start : (marks : List ℕ) → from < length marks → ((v : ℕ) → v < g .actors → getD marks v 0 ≡ 0) → Spread (sided side g) from (vector (set marks from 1))
   unfolding Along
   spread-start marks l clear =
-      subst⁻¹ (Spread (sided side g) from true) (vector-set marks from 1 l) (record {
+      subst⁻¹ (Spread (sided side g) from) (vector-set marks from 1 l) (record {
         start = rw put-same (omega arith);
         within = λ v l. put-keeps (λ v n. 0 < n → Reaches (sided side g) from v) (vector marks) from 1 (λ _. ([], refl)) v (λ m. absurd (omega (arith, clear v (rw (sided-counts side g .0) at l))));
-        closed = λ e. absurd (true≢false e);
       })
 
   -- A pass more.
-  pub spread-turn : {more more' : Bool} {before after : ℕ → ℕ} → Spread (sided side g) from more before → Passed (sided side g) (g .channels) more' before after → Spread (sided side g) from more' after
-  spread-turn s p = record { start = p .kept from (s .start); within = p .within from (s .within); closed = rw (sided-counts side g .1) (p .closed) }
+  pub spread-turn : {pick : ℕ → ℕ} {n : ℕ} {more : Bool} {before after : ℕ → ℕ} → Spread (sided side g) from before → Passed (sided side g) pick n more before after → Spread (sided side g) from after
+  spread-turn s p = record { start = p .kept from (s .start); within = p .within from (s .within) }
 
-  -- When a pass adds none, every actor is marked exactly if `from` reaches every actor.
-  pub spread-end : {more : Bool} {marks : ℕ → ℕ} (r : Bool) → more ≡ false → Spread (sided side g) from more marks → Decides r ((v : ℕ) → v < g .actors → 0 < marks v) → Decides r (AllFrom (sided side g) from)
-  spread-end {more} {marks} r e s =
-      let counts = sided-counts side g .0 in
-      decides-same r
-      (λ all v l. s .within v l (all v (rw counts at l)))
-      (λ all v l. reach-closed (sided side g) (λ v. 0 < marks v) from v (s .start) (s .closed e) (all v (rw counts l)))
+  -- `from` reaches every actor if every actor is marked.
+  pub spread-all : {marks : ℕ → ℕ} → Spread (sided side g) from marks → ((v : ℕ) → v < g .actors → 0 < marks v) → AllFrom (sided side g) from
+  spread-all s all v l = s .within v l (all v (rw (sided-counts side g .0) at l))
+
+  -- And only then, once a pass adds no mark.
+  pub spread-closed : {more : Bool} {before after : ℕ → ℕ} → Spread (sided side g) from after → Passed (sided side g) (turn side (g .channels)) (g .channels) more before after → more ≡ false → AllFrom (sided side g) from → (v : ℕ) → v < g .actors → 0 < after v
+  spread-closed {after = after} s p e all v l =
+      let closed : (c : ℕ) → c < sided side g .channels → Leads (sided side g) after c =
+      λ c k. let t = turn-within side (g .channels) c (rw (sided-counts side g .1) at k) in subst (Leads (sided side g) after) (t .1) (p .closed e (turn side (g .channels) c) (t .0)) in
+      reach-closed (sided side g) (λ v. 0 < after v) from v (s .start) closed (all v (rw (sided-counts side g .0) l))
 
 -- Every actor is reached and reaches the output exactly if the input reaches all, and the output does against the channels.
 pub reached-both : (g : Graph) → Reached g ↔ (AllFrom g (g .input) × AllFrom (reversed g) (g .output))
 unfolding reversed
 reached-both g = (λ h. (λ v l. h v l .0, λ v l. reaches-reversed g v (g .output) .1 (h v l .1)), λ h v l. (h .0 v l, reaches-reversed g v (g .output) .0 (h .1 v l)))
-
--- If the input does not reach all, not every actor is reached.
-pub reached-no : (g : Graph) (r : Bool) → r ≡ false → Decides r (AllFrom g (g .input)) → ¬ Reached g
-reached-no g r e d h = decided-no (AllFrom g (g .input)) r e d (reached-both g .0 h .0)
-
--- If the input reaches all, what is left is the look against the channels.
-pub reached-rest : (g : Graph) (r t : Bool) → r ≡ true → Decides r (AllFrom g (g .input)) → Decides t (AllFrom (reversed g) (g .output)) → Decides t (Reached g)
-reached-rest g r t e d = decides-same t (λ b. reached-both g .1 (decided-yes (AllFrom g (g .input)) r e d, b)) (λ h. reached-both g .0 h .1)

@@ -3,8 +3,8 @@ use mathlib.Core.Path.{_≡_, refl, sym, _∙_, ap}
 use mathlib.Core.Bool.{Bool, true, false, false≢true, true≢false}
 use mathlib.Core.Logic.{⊎-elim, _≢_}
 use mathlib.Core.List.{List, [], _++_}
-use Prim.Native.Nat.{ℕ, zero, suc, _+_, _*_, _-_, _<_, _≤_}
-use native.Mathlib.Nat.{le-refl, le-of-eq, mul-le-mul, eq-of-mul-eq-mul-left, pos-of-ne-zero}
+use Prim.Native.Nat.{ℕ, zero, suc, _+_, _*_, _-_, _^_, _<_, _≤_}
+use native.Mathlib.Nat.{le-refl, le-of-eq, mul-le-mul, eq-of-mul-eq-mul-left, pos-of-ne-zero, mul-le-mul-right}
 use native.Mathlib.Numerals.{add-one}
 use native.Mathlib.Omega.{arith}
 use borrow.Author.Tests.{eq-eqb, ne-eqb}
@@ -24,7 +24,7 @@ use Rattle.sdf.proofs.Trial.{batch, batch-firings, batch-after, stuck}
 use Rattle.graph.specs.Flat.{vector, Drawn}
 use Rattle.graph.specs.Decides.{Decides}
 use Rattle.graph.specs.Repetition.{Repeats}
-use Rattle.graph.specs.Trial.{Greatest, Allows, Restores, Moved, Fireable, Fired, Run, Visitable, Visited, Started}
+use Rattle.graph.specs.Trial.{Greatest, Allows, Restores, Moved, Fireable, Fired, Run, Visitable, Visited, Underway, Started}
 use Rattle.graph.proofs.Firing.{removed-all, removed-none, added-all, added-none}
 
 -- A list filled from the front with the values of f, and one entry more.
@@ -102,7 +102,7 @@ pub record Visit (g : Graph) (v k : ℕ) (tokens left ready tokens′ left′ re
   pub less : getD left′ v 0 + k ≡ getD left v 0
   pub others : (w : ℕ) → w ≢ v → getD left′ w 0 ≡ getD left w 0
   pub kept : (w : ℕ) → w ≢ v → getD ready′ w 0 ≡ 0 → getD ready w 0 ≡ 0
-  pub woken : (w : ℕ) → w ≢ v → getD ready′ w 0 ≡ 0 → 0 < k → (c : ℕ) → c < g .channels → g .channel c .tail ≡ v → g .channel c .head ≢ w
+  pub woken : (w : ℕ) → w ≢ v → getD ready′ w 0 ≡ 0 → 0 < k → (c : ℕ) → c < g .channels → g .channel c .tail ≡ v → g .channel c .head ≡ w → getD tokens′ c 0 < g .channel c .consume
 
 module _ {g : Graph} {v k : ℕ} {tokens left ready tokens′ left′ ready′ : List ℕ} (visit : Visit g v k tokens left ready tokens′ left′ ready′) where
   -- Still short, v would have been allowed one firing more if it were enabled.
@@ -118,12 +118,12 @@ module _ {g : Graph} {v k : ℕ} {tokens left ready tokens′ left′ ready′ :
       } in
       omega (arith, visit .allowance .greatest (k + 1) (omega (arith, visit .less)) one-more)
 
-  -- Another actor that is not ready has got no tokens.
+  -- Another actor that is not ready has got no tokens, or too few.
   other-waits : (w : ℕ) → w ≢ v → getD ready′ w 0 ≡ 0 → Enabled g (vector tokens′) w → Enabled g (vector tokens) w
   other-waits w n quiet enabled c l h =
       let e = g .channel c in
       let none : k * added e v ≡ 0 = ⊎-elim
-      (λ p. rw (added-none e v (λ t. visit .woken w n quiet p c l t h)) (omega arith))
+      (λ p. rw (added-none e v (λ t. omega (arith, visit .woken w n quiet p c l t h, enabled c l h))) (omega arith))
       (λ (z : k ≤ 0). let none : k ≡ 0 = omega arith in rw none (omega arith))
       (lt-or-ge 0 k) in
       omega (arith, enabled c l h, none, rw (removed-none e v (λ t. n (sym h ∙ t))) at (visit .moved c l .tokens))
@@ -158,19 +158,31 @@ module _ {g : Graph} {v k : ℕ} {tokens left ready tokens′ left′ ready′ :
 
   -- Where a visit that fires nothing makes nobody ready, it is all that is asked of a visit.
   visited : (k ≡ 0 → (w : ℕ) → (w ≢ v → getD ready w 0 ≡ 0) → getD ready′ w 0 ≡ 0) → Visited g v k tokens left ready tokens′ left′ ready′
-  visited still = record { run = visit-run; within = visit .allowance .within; still = still }
+  visited still = record {
+    run = visit-run;
+    fewer = omega (arith, visit .less, sum-changed (vector left′) (vector left) (g .actors) v (visit .actor) (visit .others));
+    still = still;
+  }
 
 -- A visit that finds v not ready changes nothing.
 pub visit-none : {g : Graph} {v k : ℕ} {tokens left ready : List ℕ} → k ≡ 0 → getD ready v 0 ≡ 0 → Visited g v k tokens left ready tokens left ready
 visit-none {v = v} {k} none quiet = record {
   run = λ q rest run. let same : rest - k ≡ rest = omega arith in rw same run;
-  within = omega arith;
+  fewer = omega arith;
   still = λ _ w before. ⊎-elim (λ e. rw e quiet) before (eq-or-ne w v);
 }
 
 -- Marking v not ready leaves the others as they were.
 unready : {v w : ℕ} (ready : List ℕ) → w ≢ v → getD (set ready v 0) w 0 ≡ getD ready w 0
 unready {v} {w} ready n = getD-set-other ready v w 0 0 n
+
+-- What v is short of and the rates are within what an allowance asks.
+pub visit-bounds : {g : Graph} {v short : ℕ} {tokens left ready : List ℕ} → Drawn g → Visitable g tokens left ready → v < g .actors → short ≡ getD left v 0
+    → (c : ℕ) → c < g .channels → (0 < g .channel c .consume) × (short * g .channel c .consume < 2 ^ 64)
+visit-bounds {v = v} {short} drawn able actor all c l = (
+  drawn .sound .consume c l,
+  omega (arith, mul-le-mul {n₁ = short} {n₂ = max-repetition} (omega (arith, able .short v actor)) (drawn .consume c l)),
+)
 
 module _ {g : Graph} {v short k : ℕ} {tokens left ready : List ℕ} (drawn : Drawn g) (able : Visitable g tokens left ready) (actor : v < g .actors)
     (all : short ≡ getD left v 0) (allowance : Greatest (Allows (g .channel) (g .channels) (vector tokens) v) short k) where
@@ -232,9 +244,8 @@ restored {g} {q} sound balanced c l same =
     (balanced .equal c l ∙ ap (λ (x : ℕ). q x * e .consume) (sym same))
 
 -- All through a run the numbers stay within the bounds that a visit asks.
-pub run-visitable : {g : Graph} {q tokens left ready : List ℕ} {rest : ℕ} → Drawn g → Repeats g q → Run g (vector q) tokens left ready rest
-    → g .channels ≤ length tokens → g .actors ≤ length left → g .actors ≤ length ready → Visitable g tokens left ready
-run-visitable {g} {q} drawn repeats run tokens-room left-room ready-room = record {
+pub run-visitable : {g : Graph} {tokens left ready : List ℕ} → Drawn g → Underway g tokens left ready → Visitable g tokens left ready
+run-visitable {g} drawn way = let run = way .run in let repeats = way .repeats in record {
   restores = restored (drawn .sound) (repeats .repetition .balanced);
   held = λ c l.
       let e = g .channel c in
@@ -247,10 +258,95 @@ run-visitable {g} {q} drawn repeats run tokens-room left-room ready-room = recor
         mul-le-mul {n₁ = firings (e .tail) (run .order)} {n₂ = max-repetition} (omega (arith, run .short (e .tail) tail, repeats .bound (e .tail) tail)) (drawn .produce c l),
       );
   short = λ v l. omega (arith, run .short v l, repeats .bound v l);
-  tokens-room = tokens-room;
-  left-room = left-room;
-  ready-room = ready-room;
+  tokens-room = way .tokens-room;
+  left-room = way .left-room;
+  ready-room = way .ready-room;
 }
+
+-- The lists that a run works in keep their lengths.
+pub record Sized (tokens left ready hints tokens′ left′ ready′ hints′ : List ℕ) : Type 0 where
+  pub tokens-length : length tokens′ ≡ length tokens
+  pub left-length : length left′ ≡ length left
+  pub ready-length : length ready′ ≡ length ready
+  pub hints-length : length hints′ ≡ length hints
+
+-- Lists keep their lengths before anything is done.
+pub sized-start : {tokens left ready hints : List ℕ} → Sized tokens left ready hints tokens left ready hints
+sized-start = record { tokens-length = refl; left-length = refl; ready-length = refl; hints-length = refl }
+
+-- Lengths that are kept and then kept again are kept.
+pub sized-again : {tokens left ready hints tokens′ left′ ready′ hints′ tokens″ left″ ready″ hints″ : List ℕ} → Sized tokens left ready hints tokens′ left′ ready′ hints′
+    → Sized tokens′ left′ ready′ hints′ tokens″ left″ ready″ hints″ → Sized tokens left ready hints tokens″ left″ ready″ hints″
+sized-again first second = record {
+  tokens-length = second .tokens-length ∙ first .tokens-length;
+  left-length = second .left-length ∙ first .left-length;
+  ready-length = second .ready-length ∙ first .ready-length;
+  hints-length = second .hints-length ∙ first .hints-length;
+}
+
+-- Visits that begin with one to v, before the next one, to w: k firings are made, and where these are none nobody but w is ready
+-- who was not.
+pub record Following (g : Graph) (v w k : ℕ) (tokens left ready tokens′ left′ ready′ : List ℕ) : Type 0 where
+  pub run : (q : ℕ → ℕ) (rest : ℕ) → Run g q tokens left ready rest → Run g q tokens′ left′ ready′ (rest - k)
+  pub fewer : sumTo (vector left′) (g .actors) + k ≡ sumTo (vector left) (g .actors)
+  pub still : k ≡ 0 → (u : ℕ) → (u ≢ v → getD ready u 0 ≡ 0) → u ≢ w → getD ready′ u 0 ≡ 0
+
+-- Before the first visit nothing has changed.
+pub following-start : {g : Graph} {v k : ℕ} {tokens left ready : List ℕ} → k ≡ 0 → Following g v v k tokens left ready tokens left ready
+following-start {k = k} none = record {
+  run = λ q rest run. let same : rest - k ≡ rest = omega arith in rw same run;
+  fewer = omega arith;
+  still = λ _ u before. before;
+}
+
+-- One visit more.
+pub following-visit : {g : Graph} {v w k j n : ℕ} {tokens left ready tokens′ left′ ready′ tokens″ left″ ready″ : List ℕ}
+    → Following g v w k tokens left ready tokens′ left′ ready′ → Visited g w j tokens′ left′ ready′ tokens″ left″ ready″ → n ≡ k + j
+    → Visited g v n tokens left ready tokens″ left″ ready″
+following-visit {k = k} {j} {n} before visited both = record {
+  run = λ q rest run. let same : rest - n ≡ rest - k - j = omega arith in rw same (visited .run q (rest - k) (before .run q rest run));
+  fewer = omega (arith, before .fewer, visited .fewer);
+  still = λ none u quiet. visited .still (omega arith) u (before .still (omega arith) u quiet);
+}
+
+-- Visits, and then one to w.
+pub following-again : {g : Graph} {v w k : ℕ} {tokens left ready tokens′ left′ ready′ : List ℕ} → Visited g v k tokens left ready tokens′ left′ ready′
+    → Following g v w k tokens left ready tokens′ left′ ready′
+following-again visited = record { run = visited .run; fewer = visited .fewer; still = λ none u quiet _. visited .still none u quiet }
+
+-- Visits leave a run under way.
+pub following-underway : {g : Graph} {v w k : ℕ} {tokens left ready hints tokens′ left′ ready′ hints′ : List ℕ} → Underway g tokens left ready
+    → Following g v w k tokens left ready tokens′ left′ ready′ → Sized tokens left ready hints tokens′ left′ ready′ hints′ → Underway g tokens′ left′ ready′
+following-underway way following sized = record {
+  q = way .q;
+  repeats = way .repeats;
+  rest = _;
+  run = following .run _ _ (way .run);
+  tokens-room = omega (arith, way .tokens-room, sized .tokens-length);
+  left-room = omega (arith, way .left-room, sized .left-length);
+  ready-room = omega (arith, way .ready-room, sized .ready-length);
+}
+
+-- How often visits can fire fits.
+pub visited-fits : {g : Graph} {v k : ℕ} {tokens left ready tokens′ left′ ready′ : List ℕ} → Drawn g → Underway g tokens left ready
+    → Visited g v k tokens left ready tokens′ left′ ready′ → k < 2 ^ 64
+visited-fits {g} {left = left} drawn way visited =
+    omega (arith, visited .fewer, drawn .actors, sum-bound (vector left) (g .actors) max-repetition (run-visitable drawn way .short))
+
+-- What the visits along the hints use up: the firings still to come and, where nothing fires, the hints.
+abbrev pub ahead : ℕ → List ℕ → List ℕ → ℕ
+ahead actors left hints = sumTo (vector left) actors * (length hints + 1) + (length hints - (length hints - getD hints 0 0))
+
+-- An actor is visited and a hint taken off.
+pub hint-less : {g : Graph} {v k : ℕ} {tokens left ready tokens′ left′ ready′ hints mid : List ℕ} (hints′ : List ℕ) → Visited g v k tokens left ready tokens′ left′ ready′
+    → (k ≡ 0 → mid ≡ hints) → (getD hints′ 0 0 < getD mid 0 0) × (getD mid 0 0 < length mid) → length mid ≡ length hints → length hints′ ≡ length mid
+    → ahead (g .actors) left′ hints′ < ahead (g .actors) left hints
+hint-less {k = k} {hints = hints} hints′ visited same less first second =
+    let fewer = ap (λ (x : ℕ). x * (length hints + 1)) (visited .fewer) in
+    rw (second ∙ first) (⊎-elim
+    (λ p. omega (arith, fewer, mul-le-mul-right (length hints + 1) p))
+    (λ (z : k ≤ 0). omega (arith, fewer, less .0, less .1, first, ap (λ (xs : List ℕ). getD xs 0 0) (same (omega arith))))
+    (lt-or-ge 0 k))
 
 -- Within a pass that began with `before` firings still to come: if something has fired there are fewer now; if not, no actor
 -- passed is ready.
@@ -267,11 +363,11 @@ pass-start run = record { run = run; most = le-refl _; more = λ e. absurd (fals
 module _ {g : Graph} {q : ℕ → ℕ} {tokens left ready tokens′ left′ ready′ : List ℕ} {before rest next v k : ℕ} {fired : Bool}
     (pass : Pass g q tokens left ready before rest fired v) (visited : Visited g v k tokens left ready tokens′ left′ ready′) (fewer : next ≡ rest - k) where
   -- A visit that fires.
-  pub pass-fired : {marked : Bool} → v < g .actors → k ≢ 0 → marked ≡ true → Pass g q tokens′ left′ ready′ before next marked (v + 1)
-  pass-fired actor some mark = record {
+  pub pass-fired : {marked : Bool} → k ≢ 0 → marked ≡ true → Pass g q tokens′ left′ ready′ before next marked (v + 1)
+  pass-fired some mark = record {
     run = rw fewer (visited .run q rest (pass .run));
     most = omega (arith, pass .most);
-    more = λ _. omega (arith, some, visited .within, pass .most, pass .run .sum, term-le-sum (vector left) (g .actors) v actor);
+    more = λ _. omega (arith, some, visited .fewer, pass .most, pass .run .sum);
     still = λ e. absurd (true≢false (sym mark ∙ e));
   }
 
@@ -283,25 +379,6 @@ module _ {g : Graph} {q : ℕ → ℕ} {tokens left ready tokens′ left′ read
     more = λ e. omega (arith, pass .more (sym mark ∙ e));
     still = λ e w l. visited .still none w (λ n. pass .still (sym mark ∙ e) w (omega (arith, n)));
   }
-
--- The lists that a run works in keep their lengths.
-pub record Sized (tokens left ready tokens′ left′ ready′ : List ℕ) : Type 0 where
-  pub tokens-length : length tokens′ ≡ length tokens
-  pub left-length : length left′ ≡ length left
-  pub ready-length : length ready′ ≡ length ready
-
--- Lists keep their lengths before anything is done.
-pub sized-start : {tokens left ready : List ℕ} → Sized tokens left ready tokens left ready
-sized-start = record { tokens-length = refl; left-length = refl; ready-length = refl }
-
--- Lengths that are kept and then kept again are kept.
-pub sized-again : {tokens left ready tokens′ left′ ready′ tokens″ left″ ready″ : List ℕ} → Sized tokens left ready tokens′ left′ ready′
-    → Sized tokens′ left′ ready′ tokens″ left″ ready″ → Sized tokens left ready tokens″ left″ ready″
-sized-again first second = record {
-  tokens-length = second .tokens-length ∙ first .tokens-length;
-  left-length = second .left-length ∙ first .left-length;
-  ready-length = second .ready-length ∙ first .ready-length;
-}
 
 -- A run that has ended: nothing is left to fire, or no actor is ready.
 pub record Over (g : Graph) (q : ℕ → ℕ) (tokens left ready : List ℕ) (rest : ℕ) : Type 0 where

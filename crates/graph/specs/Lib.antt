@@ -3,6 +3,7 @@ pub mod Decides
 pub mod Reach
 pub mod Read
 pub mod Repetition
+pub mod Links
 pub mod Trial
 pub mod Rest
 pub mod Skip

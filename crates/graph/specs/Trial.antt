@@ -10,6 +10,7 @@ use Rattle.sdf.specs.Graph.{Graph}
 use Rattle.sdf.specs.Order.{State, initial, Enabled, removed, added, after, Legal, firings}
 use Rattle.sdf.specs.Sum.{sumTo}
 use Rattle.graph.specs.Flat.{vector}
+use Rattle.graph.specs.Repetition.{Repeats}
 
 -- The greatest number up to `most` of which P holds.
 pub record Greatest (P : ℕ → Type 0) (most k : ℕ) : Type 0 where
@@ -35,10 +36,11 @@ Restores e = e .tail ≡ e .head → e .produce ≡ e .consume
 pub record Moved (e : sdf.Channel) (v k held there : ℕ) : Type 0 where
   pub tokens : there + k * removed e v ≡ held + k * added e v
 
--- An actor that is not ready now was not ready before, and is not another actor to which the channel leads from v.
-pub record Woken (e : sdf.Channel) (v : ℕ) (ready ready′ : List ℕ) : Type 0 where
+-- An actor that is not ready now was not ready before, and if it is another than v to which the channel leads, the channel holds
+-- less than it takes.
+pub record Woken (e : sdf.Channel) (v held : ℕ) (ready ready′ : List ℕ) : Type 0 where
   pub kept : (w : ℕ) → getD ready′ w 0 ≡ 0 → getD ready w 0 ≡ 0
-  pub woken : (w : ℕ) → getD ready′ w 0 ≡ 0 → w ≢ v → e .tail ≡ v → e .head ≢ w
+  pub woken : (w : ℕ) → getD ready′ w 0 ≡ 0 → w ≢ v → e .head ≡ w → held < e .consume
 
 -- What k firings of v ask of the channels and of the lists that they change.
 pub record Fireable (channel : ℕ → sdf.Channel) (n v k : ℕ) (tokens ready : List ℕ) : Type 0 where
@@ -48,11 +50,25 @@ pub record Fireable (channel : ℕ → sdf.Channel) (n v k : ℕ) (tokens ready 
   pub tokens-room : n ≤ length tokens
   pub ready-room : (c : ℕ) → c < n → channel c .head < length ready
 
--- What k firings of v change on the first n channels.
+-- What a channel gets from k firings of v. Another actor to which it leads from v is ready, or the channel holds less than it takes.
+pub record PutOn (e : sdf.Channel) (v k : ℕ) (ready : List ℕ) (held there : ℕ) : Type 0 where
+  pub more : there ≡ held + k * added e v
+  pub woken : (w : ℕ) → getD ready w 0 ≡ 0 → w ≢ v → e .tail ≡ v → e .head ≡ w → there < e .consume
+
+-- What the first n channels get.
+pub record Put (channel : ℕ → sdf.Channel) (n v k : ℕ) (tokens ready tokens′ ready′ : List ℕ) : Type 0 where
+  pub on : (c : ℕ) → c < n → PutOn (channel c) v k ready′ (getD tokens c 0) (getD tokens′ c 0)
+  pub kept : (w : ℕ) → getD ready′ w 0 ≡ 0 → getD ready w 0 ≡ 0
+
+-- What a channel loses by k firings of v.
+pub record TakenOff (e : sdf.Channel) (v k held there : ℕ) : Type 0 where
+  pub less : there + k * removed e v ≡ held
+
+-- What k firings of v change on the first n channels. Another actor to which one of them leads from v is ready, or cannot fire.
 pub record Fired (channel : ℕ → sdf.Channel) (n v k : ℕ) (tokens ready tokens′ ready′ : List ℕ) : Type 0 where
   pub moved : (c : ℕ) → c < n → Moved (channel c) v k (getD tokens c 0) (getD tokens′ c 0)
   pub kept : (w : ℕ) → getD ready′ w 0 ≡ 0 → getD ready w 0 ≡ 0
-  pub woken : (w : ℕ) → getD ready′ w 0 ≡ 0 → w ≢ v → (c : ℕ) → c < n → channel c .tail ≡ v → channel c .head ≢ w
+  pub woken : (w : ℕ) → getD ready′ w 0 ≡ 0 → w ≢ v → (c : ℕ) → c < n → channel c .tail ≡ v → channel c .head ≡ w → getD tokens′ c 0 < channel c .consume
 
 -- A trial run toward the counts q: some legal order led here. `left` holds what each actor is short of its count, `rest` is
 -- the sum of that, and an actor that is short and not ready is not enabled.
@@ -73,12 +89,22 @@ pub record Visitable (g : Graph) (tokens left ready : List ℕ) : Type 0 where
   pub left-room : g .actors ≤ length left
   pub ready-room : g .actors ≤ length ready
 
--- A visit to v in which it fires k times carries every run on by so many firings. Where it fires nothing, v is not ready, and
--- nobody has become ready.
+-- A visit to v, or one to v and then to others, in which k firings are made, carries every run on by so many firings. Where
+-- nothing fires, v is not ready, and nobody has become ready.
 pub record Visited (g : Graph) (v k : ℕ) (tokens left ready tokens′ left′ ready′ : List ℕ) : Type 0 where
   pub run : (q : ℕ → ℕ) (rest : ℕ) → Run g q tokens left ready rest → Run g q tokens′ left′ ready′ (rest - k)
-  pub within : k ≤ getD left v 0
+  pub fewer : sumTo (vector left′) (g .actors) + k ≡ sumTo (vector left) (g .actors)
   pub still : k ≡ 0 → (w : ℕ) → (w ≢ v → getD ready w 0 ≡ 0) → getD ready′ w 0 ≡ 0
+
+-- Some run toward the repetition vector has led here, and the lists have room.
+pub record Underway (g : Graph) (tokens left ready : List ℕ) : Type 0 where
+  pub q : List ℕ
+  pub repeats : Repeats g q
+  pub rest : ℕ
+  pub run : Run g (vector q) tokens left ready rest
+  pub tokens-room : g .channels ≤ length tokens
+  pub left-room : g .actors ≤ length left
+  pub ready-room : g .actors ≤ length ready
 
 -- The start of a run: all of q is still to come, and every actor is ready.
 pub record Started (actors : ℕ) (q left ready : List ℕ) (rest : ℕ) : Type 0 where

@@ -1,17 +1,32 @@
 // 01, Skip numbers: found from above, in one vector. Every actor starts at more than it can skip, the output at 0, and each
-// channel lowers its tail to what it allows until none does. And 01, Fewest firings.
+// channel lowers its tail to what it allows until none does. The channels into an actor are looked at again only after its
+// skip fell. And 01, Fewest firings.
 ghost use mathlib.Core.Path.{_≡_};
+ghost use mathlib.Core.Logic.{_≢_};
 ghost use Prim.Native.Nat.{ℕ, _+_, _*_, _-_, _/_, _^_, _<_, _≤_};
 ghost use lib.ListN.{length, getD};
 ghost use Rattle.units.specs.Bounds.{engine-actors, max-tokens, max-repetition};
 ghost use Rattle.sdf.specs.Graph.{Reached};
 ghost use Rattle.sdf.specs.Skip.{Skips, allowed as allows};
 ghost use Rattle.graph.specs.Flat.{channel-at, graph-of, vector, Drawn};
+ghost use Rattle.graph.specs.Decides.{Decides};
 ghost use Rattle.graph.specs.Repetition.{Repeats};
-ghost use Rattle.graph.specs.Skip.{Highest, Falling, Lowered};
+ghost use Rattle.graph.specs.Links.{heads, Linked};
+ghost use Rattle.graph.specs.Skip.{Highest, Falling, Watched, Lowered};
 use super::flat::number;
+use super::reach::clear;
 use units::Firings;
 use units::Tokens;
+
+// The tokens that channel c leaves its tail to skip, given its head's skip.
+fn spare(channels: &[u32], c: usize, skip: Firings) -> Tokens
+    requires { ⌜ (c < length (now channels) / 5) × (channel-at (now channels) c .tokens + skip .n * channel-at (now channels) c .consume < 2 ^ 64) ⌝ }
+    ensures { λ r. ⌜ r .n ≡ channel-at (now (channels .entry)) c .tokens + skip .n * channel-at (now (channels .entry)) c .consume ⌝ }
+{
+    let consume = Tokens::of(number(channels, c, 3));
+    let tokens = Tokens::of(number(channels, c, 4));
+    tokens.plus(skip.tokens(consume))
+}
 
 // What channel c allows its tail, given its head's skip.
 fn allowed(channels: &[u32], c: usize, skip: Firings) -> Firings
@@ -19,9 +34,17 @@ fn allowed(channels: &[u32], c: usize, skip: Firings) -> Firings
     ensures { λ r. ⌜ r .n ≡ allows (channel-at (now (channels .entry)) c) (skip .n) ⌝ }
 {
     let produce = Tokens::of(number(channels, c, 2));
-    let consume = Tokens::of(number(channels, c, 3));
-    let tokens = Tokens::of(number(channels, c, 4));
-    tokens.plus(skip.tokens(consume)).firings(produce)
+    spare(channels, c, skip).firings(produce)
+}
+
+// Whether channel c allows its tail less than this. It is asked of every channel, so without a division.
+fn lowers(channels: &[u32], c: usize, skip: Firings, from: Firings) -> bool
+    requires { ⌜ (c < length (now channels) / 5) × (0 < channel-at (now channels) c .produce) × (channel-at (now channels) c .tokens + skip .n * channel-at (now channels) c .consume < 2 ^ 64) × (from .n * channel-at (now channels) c .produce < 2 ^ 64) ⌝ }
+    ensures { λ r. ⌜ Decides r (allows (channel-at (now (channels .entry)) c) (skip .n) < from .n) ⌝ }
+{
+    let produce = Tokens::of(number(channels, c, 2));
+    let most = spare(channels, c, skip).count();
+    most < from.tokens(produce).count()
 }
 
 // At least what an actor of this repetition number can skip.
@@ -46,35 +69,88 @@ fn start(actors: usize, output: usize, q: &[u64], s: &mut [u64])
     s[output] = 0;
 }
 
-// One pass over the channels. Says whether an entry was lowered.
-fn pass(actors: usize, input: usize, output: usize, channels: &[u32], s: &mut [u64]) -> bool
-    requires { ⌜ (Drawn (graph-of actors input output (now channels))) × (actors ≤ length (now s)) × Falling (graph-of actors input output (now channels)) (vector (now s)) ⌝ }
-    ensures { λ r. ⌜ Lowered (graph-of actors input output (now (channels .entry))) (length (now (channels .entry)) / 5) r (vector (now (s .entry))) (vector (now (s .exit))) ⌝ }
+// The channels into actor h lower their tails to what they allow; a tail that falls is ready. Says whether one fell.
+fn lower(
+    actors: usize,
+    input: usize,
+    output: usize,
+    channels: &[u32],
+    into: &[u64],
+    h: usize,
+    s: &mut [u64],
+    ready: &mut [u64],
+) -> bool
+    requires { ⌜ (Drawn (graph-of actors input output (now channels))) × Linked (heads (now channels)) actors (length (now channels) / 5) (now into) × (h < actors) × (actors ≤ length (now s)) × (actors ≤ length (now ready)) ⌝ }
+    requires { ⌜ Falling (graph-of actors input output (now channels)) (vector (now s)) × ((d : ℕ) → heads (now channels) d ≢ h → Watched (graph-of actors input output (now channels)) (vector (now s)) (vector (now ready)) d) ⌝ }
+    ensures { λ r. ⌜ Lowered (graph-of actors input output (now (channels .entry))) r (now (ready .exit) ≡ now (ready .entry)) (now (s .entry)) (now (s .exit)) (now (ready .exit)) ⌝ }
 {
-    let m = channels.len() / 5;
     let mut more = false;
-    let mut c = 0;
-    while c < m {
+    let mut at = into[h];
+    while 0 < at {
+        let c = (at - 1) as usize;
+        at = into[actors + c];
         let tail = number(channels, c, 0) as usize;
-        let head = number(channels, c, 1) as usize;
-        let most = allowed(channels, c, Firings::of(s[head])).count();
-        if most < s[tail] {
-            s[tail] = most;
+        let skip = Firings::of(s[h]);
+        if lowers(channels, c, skip, Firings::of(s[tail])) {
+            s[tail] = allowed(channels, c, skip).count();
+            ready[tail] = 1;
             more = true;
         }
-        c += 1;
     }
     more
 }
 
-pub fn skips(actors: usize, input: usize, output: usize, channels: &[u32], q: &[u64], s: &mut [u64])
+// One pass over the actors that are ready. Says whether an entry was lowered. Channels mostly lead from lower to higher numbers,
+// and skips go against them: so from the last to the first.
+fn pass(
+    actors: usize,
+    input: usize,
+    output: usize,
+    channels: &[u32],
+    into: &[u64],
+    s: &mut [u64],
+    ready: &mut [u64],
+) -> bool
+    requires { ⌜ (Drawn (graph-of actors input output (now channels))) × Linked (heads (now channels)) actors (length (now channels) / 5) (now into) × (actors ≤ length (now s)) × (actors ≤ length (now ready)) ⌝ }
+    requires { ⌜ Falling (graph-of actors input output (now channels)) (vector (now s)) × ((d : ℕ) → Watched (graph-of actors input output (now channels)) (vector (now s)) (vector (now ready)) d) ⌝ }
+    ensures { λ r. ⌜ Lowered (graph-of actors input output (now (channels .entry))) r (Skips (graph-of actors input output (now (channels .entry))) (vector (now (s .exit)))) (now (s .entry)) (now (s .exit)) (now (ready .exit)) ⌝ }
+{
+    let mut more = false;
+    let mut h = actors;
+    while 0 < h {
+        h -= 1;
+        if ready[h] != 0 {
+            ready[h] = 0;
+            if lower(actors, input, output, channels, into, h, s, ready) {
+                more = true;
+            }
+        }
+    }
+    more
+}
+
+// At the start only the channels into the output may lower a tail. `into` lists the channels by head; the last slice is lent
+// to work in.
+pub fn skips(
+    actors: usize,
+    input: usize,
+    output: usize,
+    channels: &[u32],
+    into: &[u64],
+    q: &[u64],
+    s: &mut [u64],
+    ready: &mut [u64],
+)
     requires { ⌜ (Drawn (graph-of actors input output (now channels))) × (Reached (graph-of actors input output (now channels))) × (actors ≤ length (now q)) × (actors ≤ length (now s)) × (Repeats (graph-of actors input output (now channels)) (now q)) ⌝ }
+    requires { ⌜ Linked (heads (now channels)) actors (length (now channels) / 5) (now into) × (actors ≤ length (now ready)) ⌝ }
     ensures { λ _. ⌜ Skips (graph-of actors input output (now (channels .entry))) (vector (now (s .exit))) ⌝ }
 {
     start(actors, output, q, s);
+    clear(actors, ready);
+    ready[output] = 1;
     let mut more = true;
     while more {
-        more = pass(actors, input, output, channels, s);
+        more = pass(actors, input, output, channels, into, s, ready);
     }
 }
 

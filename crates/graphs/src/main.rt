@@ -39,6 +39,9 @@ fn judge(actors: usize, input: usize, output: usize, channels: &[u32])
     let mut tokens = [0u64; 2];
     let mut left = [0u64; 3];
     let mut ready = [0u64; 3];
+    let mut into = [0u64; 5];
+    let mut out = [0u64; 5];
+    let mut hints = [0u64; 1];
     let answer = number(graph::numbers(
         actors,
         input,
@@ -49,6 +52,9 @@ fn judge(actors: usize, input: usize, output: usize, channels: &[u32])
         &mut tokens,
         &mut left,
         &mut ready,
+        &mut into,
+        &mut out,
+        &mut hints,
     ));
     io::print_decimal(STDOUT_FILENO, answer);
     if answer == 0 {

@@ -42,9 +42,7 @@ fn verdict_of(n: usize, heads: &[u64], rows: &[u64], frame: Ticks) -> Verdict
         return Verdict::Overload(sum);
     }
     let mut weight = [0u64; 8];
-    let mut knee = [0u64; 8];
-    let mut next = [0u64; 8];
-    let mut blocks = [0u64; 8];
+    let mut pieces = [0u64; 64];
     let found = late(
         h,
         rows,
@@ -54,9 +52,7 @@ fn verdict_of(n: usize, heads: &[u64], rows: &[u64], frame: Ticks) -> Verdict
         frame,
         load,
         &mut weight,
-        &mut knee,
-        &mut next,
-        &mut blocks,
+        &mut pieces,
     );
     match found {
         Lateness::At(t) => Verdict::Late(sum, t),

@@ -22,6 +22,11 @@ pub const ROOM: usize = 32;
 
 pub const ROW: usize = 3 * ROOM;
 
+// Channels of a graph, and links of a list of them.
+const CHANNELS: usize = 64;
+
+const LINKS: usize = ROOM + CHANNELS;
+
 pub const HEADS: usize = 3 * 8;
 
 pub const ROWS: usize = 8 * ROW + 2 * ROOM;
@@ -39,10 +44,23 @@ fn refusal(found: GraphAnswer, k: u64) -> Answer
     }
 }
 
-// Answers 6 to 11 for the graph numbered k at the start of l, and its repetition numbers and skips.
-fn numbers(l: &[u32], k: u64, q: &mut [u64], s: &mut [u64]) -> Answer
+// Answers 6 to 11 for the graph numbered k at the start of l, and its repetition numbers and skips. The slices after these are
+// lent to work in.
+fn numbers(
+    l: &[u32],
+    k: u64,
+    q: &mut [u64],
+    s: &mut [u64],
+    tokens: &mut [u64],
+    left: &mut [u64],
+    ready: &mut [u64],
+    into: &mut [u64],
+    out: &mut [u64],
+    hints: &mut [u64],
+) -> Answer
     requires { ⌜ (sized (now l) ≡ true) × (stretch in-numbers (now l) ≤ length (now l)) ⌝ }
     requires { ⌜ (32 ≤ length (now q)) × (32 ≤ length (now s)) ⌝ }
+    requires { ⌜ (64 ≤ length (now tokens)) × (32 ≤ length (now left)) × (32 ≤ length (now ready)) × (96 ≤ length (now into)) × (96 ≤ length (now out)) × (0 < length (now hints)) ⌝ }
     ensures { λ r. ⌜ Says k (now (l .entry)) r (now (q .exit)) (now (s .exit)) ⌝ }
 {
     if !sheet::range::graph(l) {
@@ -51,9 +69,6 @@ fn numbers(l: &[u32], k: u64, q: &mut [u64], s: &mut [u64]) -> Answer
     let actors = l[0] as usize;
     let first = 6 + actors;
     let last = first + 5 * l[1] as usize;
-    let mut tokens = [0u64; 64];
-    let mut left = [0u64; 32];
-    let mut ready = [0u64; 32];
     let found = graph::numbers(
         actors,
         l[2] as usize,
@@ -61,9 +76,12 @@ fn numbers(l: &[u32], k: u64, q: &mut [u64], s: &mut [u64]) -> Answer
         &l[first..last],
         q,
         s,
-        &mut tokens,
-        &mut left,
-        &mut ready,
+        tokens,
+        left,
+        ready,
+        into,
+        out,
+        hints,
     );
     refusal(found, k)
 }
@@ -118,33 +136,67 @@ fn row(l: &[u32], q: &[u64], s: &[u64], k: usize, rows: &mut [u64])
 }
 
 // One graph: answers 6 to 11, and its places filled.
-fn graph_ready(l: &[u32], k: u64, heads: &mut [u64], rows: &mut [u64]) -> Answer
+fn graph_ready(
+    l: &[u32],
+    k: u64,
+    heads: &mut [u64],
+    rows: &mut [u64],
+    q: &mut [u64],
+    s: &mut [u64],
+    tokens: &mut [u64],
+    left: &mut [u64],
+    ready: &mut [u64],
+    into: &mut [u64],
+    out: &mut [u64],
+    hints: &mut [u64],
+) -> Answer
     requires { ⌜ (sized (now l) ≡ true) × (stretch in-numbers (now l) ≤ length (now l)) ⌝ }
     requires { ⌜ (k < 8) × (24 ≤ length (now heads)) × (832 ≤ length (now rows)) ⌝ }
+    requires { ⌜ (32 ≤ length (now q)) × (32 ≤ length (now s)) ⌝ }
+    requires { ⌜ (64 ≤ length (now tokens)) × (32 ≤ length (now left)) × (32 ≤ length (now ready)) × (96 ≤ length (now into)) × (96 ≤ length (now out)) × (0 < length (now hints)) ⌝ }
     ensures { λ r. ⌜ GraphReady k (now (l .entry)) r (now (heads .entry)) (now (rows .entry)) (now (heads .exit)) (now (rows .exit)) ⌝ }
 {
-    let mut q = [0u64; 32];
-    let mut s = [0u64; 32];
-    let found = numbers(l, k, &mut q, &mut s);
+    let found = numbers(l, k, q, s, tokens, left, ready, into, out, hints);
     match found {
         Answer::No(r) => return Answer::No(r),
         Answer::On => {}
     }
     head(l, k as usize, heads);
-    row(l, &q, &s, k as usize, rows);
+    row(l, q, s, k as usize, rows);
     Answer::On
 }
 
-// The second walk: n graphs that the first walk has passed.
+// The second walk: n graphs that the first walk has passed. What each is worked out in is cleared once.
 fn walk(l: &[u32], n: u64, heads: &mut [u64], rows: &mut [u64]) -> Answer
     requires { ⌜ (first-walk in-numbers n 0 (now l) ≡ On) × (n ≤ 8) × (24 ≤ length (now heads)) × (832 ≤ length (now rows)) ⌝ }
     ensures { λ r. ⌜ Walked n (now (l .entry)) r (now (heads .exit)) (now (rows .exit)) ⌝ }
 {
+    let mut q = [0u64; ROOM];
+    let mut s = [0u64; ROOM];
+    let mut tokens = [0u64; CHANNELS];
+    let mut left = [0u64; ROOM];
+    let mut ready = [0u64; ROOM];
+    let mut into = [0u64; LINKS];
+    let mut out = [0u64; LINKS];
+    let mut hints = [0u64; ROOM + 1];
     let mut k = 0;
     let mut at = 0;
     while k < n {
         let next = &l[at..];
-        let found = graph_ready(next, k, heads, rows);
+        let found = graph_ready(
+            next,
+            k,
+            heads,
+            rows,
+            &mut q,
+            &mut s,
+            &mut tokens,
+            &mut left,
+            &mut ready,
+            &mut into,
+            &mut out,
+            &mut hints,
+        );
         match found {
             Answer::No(r) => return Answer::No(r),
             Answer::On => {}

@@ -2,7 +2,7 @@
 -- written gives the number back, and writing what was read gives the bytes back; so it does with width 0, where nothing is
 -- stored. A number that passes answer 6 has room in its field.
 use mathlib.Core.Path.{_≡_, refl, sym, ap, _∙_}
-use mathlib.Core.Bool.{true, _&&_}
+use mathlib.Core.Bool.{true}
 use mathlib.Core.List.{List, [], _∷_, _++_, append-assoc}
 use Prim.Native.Nat.{ℕ, zero, suc, _+_, _-_, _*_, _/_, _%_, _^_, _≤_, _<_, suc-le-suc}
 use native.Mathlib.Nat.{
@@ -19,20 +19,18 @@ use native.Mathlib.Nat.{
   mul-add-mod-self-right,
   div-add-mod',
   div-lt-iff-lt-mul,
+  add-assoc,
   mul-assoc,
   add-zero,
-  pow-suc,
-  div-div-eq-div-mul,
 }
-use native.Mathlib.Numerals.{add-one}
 use native.Mathlib.Omega.{arith}
 use lib.Dec.{lit<, leb}
 use lib.ListN.{length, getD, take, drop, length-append, length-drop}
-use lib.Seq.{drop-cons, drop-drop, getD-drop, take-add, drop-at}
+use lib.Seq.{drop-drop, getD-drop, take-add, drop-at}
 use borrow.Author.Tests.{leb-true}
 use Rattle.units.specs.Bounds.{max-actors}
 use Rattle.units.specs.Within.{between}
-use Rattle.sheet.specs.declared.Field.{Field}
+use Rattle.sheet.specs.Field.{Field}
 use Rattle.sheet.specs.Layout.{none, fixed-part, actor-part, channel-part, times, layout, total, in-bytes}
 use Rattle.sheet.proofs.Walk.{and-true}
 use Rattle.sheet.specs.Fields.{big-endian, to-bytes, numbers, bytes, in-range, Bytes}
@@ -62,6 +60,21 @@ unfolding big-endian
 big-endian-below zero s b = lit< tt
 big-endian-below (suc w) s b =
     rw pow-succ' (omega (arith, mul-le-mul-right (256 ^ w) (bytes-at s b 0), big-endian-below w (drop 1 s) (bytes-drop 1 s b)))
+
+-- A field of one byte is that byte.
+pub big-endian-one : (s : List ℕ) → big-endian 1 s ≡ getD s 0 0
+unfolding big-endian
+big-endian-one s = omega arith
+
+-- A field of two bytes at place `at`.
+pub big-endian-two : (s : List ℕ) (at : ℕ) → getD s at 0 * 256 + getD s (at + 1) 0 ≡ big-endian 2 (drop at s)
+unfolding big-endian
+big-endian-two s at = simp (getD-drop, drop-drop, add-zero) (omega arith)
+
+-- A field of four bytes is two of two bytes.
+pub big-endian-four : (s : List ℕ) (at : ℕ) → big-endian 2 (drop at s) * 65536 + big-endian 2 (drop (at + 2) s) ≡ big-endian 4 (drop at s)
+unfolding big-endian
+big-endian-four s at = simp (getD-drop, drop-drop, add-zero, add-assoc) (omega arith)
 
 -- A number takes as many bytes as its field is wide.
 pub to-bytes-length : (w n : ℕ) → length (to-bytes w n) ≡ w
@@ -103,25 +116,6 @@ big-endian-to-bytes (suc w) n rest h =
     let r : n % 256 ^ w < 256 ^ w = mod-lt n (place w) in
     let e : to-bytes w n ≡ to-bytes w (n % 256 ^ w) = ap (to-bytes w) (sym (div-add-mod' n (256 ^ w))) ∙ to-bytes-wraps w (n / 256 ^ w) (n % 256 ^ w) in
     rw (mod-eq-of-lt q, e, big-endian-to-bytes w (n % 256 ^ w) rest r) (div-add-mod' n (256 ^ w))
-
--- The turn of a loop that reads a field: the number so far takes in byte i, and i goes up by one.
-pub big-endian-turn :
-    (w : ℕ) (s : List ℕ) (i acc : ℕ) → i < w →
-    acc * 256 ^ (w - i) + big-endian (w - i) (drop i s)
-    ≡ (acc * 256 + getD s i 0) * 256 ^ (w - suc i) + big-endian (w - suc i) (drop (suc i) s)
-unfolding big-endian
-big-endian-turn w s i acc h =
-    let e : w - i ≡ suc (w - suc i) = omega arith in
-    rw (e, pow-succ', getD-drop, drop-drop, add-one, add-zero) (omega arith)
-
--- The turn of a loop that writes a field from its end: byte i comes before those behind it, and what is left of n is a 256th.
-pub to-bytes-turn :
-    (w n i : ℕ) → i < w →
-    (to-bytes (w - i) n ≡ n / 256 ^ (w - suc i) % 256 ∷ to-bytes (w - suc i) n) × (n / 256 ^ (w - suc i) / 256 ≡ n / 256 ^ (w - i))
-unfolding to-bytes
-to-bytes-turn w n i h =
-    let e : w - i ≡ suc (w - suc i) = omega arith in
-    (rw e, rw (e, pow-suc, div-div-eq-div-mul))
 
 -- As many numbers are read as there are fields.
 pub numbers-length : (L : List Field) (s : List ℕ) → length (numbers L s) ≡ length L
@@ -208,44 +202,3 @@ range-fields (f ∷ L) l q e (suc i) h =
 -- 01, answer 6: each number of a graph within its bounds has room in its field.
 pub range-room : (a c : ℕ) (l : List ℕ) → a ≤ max-actors → in-range (layout a c) l ≡ true → Fits (layout a c) l
 range-room a c l h e = range-fields (layout a c) l (roomy-layout a c h) e
-
-module _ (L : List Field) (i : ℕ) (h : i < length L) where
-  -- Field i is read from the start of s, the fields after it from behind it.
-  pub numbers-step :
-      (s : List ℕ) → numbers (drop i L) s ≡ big-endian (getD L i none .width) s ∷ numbers (drop (suc i) L) (drop (getD L i none .width) s)
-  unfolding numbers
-  numbers-step s = rw (drop-cons L i none)
-
-  -- The first number of l is written in field i, those after it in the fields after it.
-  pub bytes-step :
-      (l : List ℕ) → bytes (drop i L) l ≡ to-bytes (getD L i none .width) (getD l 0 0) ++ bytes (drop (suc i) L) (drop 1 l)
-  unfolding bytes
-  bytes-step l = rw (drop-cons L i none)
-
-  -- The first number of l is held to field i, those after it to the fields after it.
-  pub range-step :
-      (l : List ℕ) →
-      in-range (drop i L) l
-      ≡ (between (getD L i none .low) (getD L i none .high) (getD l 0 0) && in-range (drop (suc i) L) (drop 1 l))
-  unfolding in-range
-  range-step l = rw (drop-cons L i none)
-
-  -- The turn of a loop that reads the fields of s: it stands at byte at before field i, and behind the field after it.
-  pub numbers-turn :
-      (s : List ℕ) (at : ℕ) →
-      numbers (drop i L) (drop at s)
-      ≡ big-endian (getD L i none .width) (drop at s) ∷ numbers (drop (suc i) L) (drop (at + getD L i none .width) s)
-  numbers-turn s at = rw (numbers-step (drop at s), drop-drop)
-
-  -- The turn of a loop that writes the numbers of l: number i in field i.
-  pub bytes-turn :
-      (l : List ℕ) →
-      bytes (drop i L) (drop i l) ≡ to-bytes (getD L i none .width) (getD l i 0) ++ bytes (drop (suc i) L) (drop (suc i) l)
-  bytes-turn l = rw (bytes-step (drop i l), getD-drop, drop-drop, add-one, add-zero)
-
-  -- The turn of a loop over the ranges of l: number i is held to field i.
-  pub range-turn :
-      (l : List ℕ) →
-      in-range (drop i L) (drop i l)
-      ≡ (between (getD L i none .low) (getD L i none .high) (getD l i 0) && in-range (drop (suc i) L) (drop (suc i) l))
-  range-turn l = rw (range-step (drop i l), getD-drop, drop-drop, add-one, add-zero)

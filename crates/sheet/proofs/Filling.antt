@@ -53,11 +53,11 @@ pub filling-end : {before now result : List ℕ} {out : ℕ} → Filling before 
 filling-end f = simp (f .is, ← f .whole, append-nil, f .wrote)
 
 -- What is written and what is to come are the result.
-filling-count : {before now result rest : List ℕ} {out : ℕ} → Filling before now result rest out → out + length rest ≡ length result
+pub filling-count : {before now result rest : List ℕ} {out : ℕ} → Filling before now result rest out → out + length rest ≡ length result
 filling-count f = simp (← f .whole, length-append, f .wrote)
 
 -- The memory keeps its length.
-filling-length : {before now result rest : List ℕ} {out : ℕ} → Filling before now result rest out → out ≤ length before → length now ≡ length before
+pub filling-length : {before now result rest : List ℕ} {out : ℕ} → Filling before now result rest out → out ≤ length before → length now ≡ length before
 filling-length f h = simp (f .is, length-append, length-drop, f .wrote) (omega arith)
 
 -- Where there is room for the result, the memory keeps its length, and there is room for what is to come.

@@ -12,7 +12,7 @@ use lib.Seq.{getD-drop, drop-at, drop-cons}
 use borrow.Author.Tests.{leb-true, le-leb, eqb-true, eq-eqb}
 use Rattle.units.specs.Bounds.{max-graphs}
 use Rattle.units.specs.Within.{between}
-use Rattle.sheet.specs.declared.Field.{Field}
+use Rattle.sheet.specs.Field.{Field}
 use Rattle.sheet.specs.declared.Answer.{Answer}
 use Rattle.sheet.specs.declared.Answer.the-variants.{On}
 use Rattle.sheet.specs.declared.Refusal.the-variants.{Length, Version, Count, Cut, Range}

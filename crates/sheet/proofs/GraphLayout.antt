@@ -1,15 +1,12 @@
 -- 01, The sheet, byte by byte: how much room a graph takes in each form, and which field stands at which place.
-use mathlib.Core.Path.{_≡_, refl, sym, ap, _∙_}
-use mathlib.Core.Logic.{⊎-elim}
+use mathlib.Core.Path.{_≡_, refl, ap, _∙_}
 use mathlib.Core.List.{List, [], _∷_, _++_}
-use Prim.Native.Nat.{ℕ, zero, suc, _+_, _*_, _-_, _/_, _%_, _≤_, _<_, max}
-use native.Mathlib.Nat.{le-trans, eq-or-lt-of-le}
+use Prim.Native.Nat.{ℕ, zero, suc, _+_, _*_, _-_, _/_, _%_, _≤_, _<_}
 use native.Mathlib.Omega.{arith}
-use lib.ListN.{length, getD, take, drop, take-append-drop, List·getD-append}
-use lib.Dec.{lit≤}
-use lib.Seq.{drop-cons, take-suc, getD-append-add}
+use lib.ListN.{length, getD, take, List·getD-append}
+use lib.Seq.{getD-append-add}
 use Rattle.units.specs.Bounds.{max-time}
-use Rattle.sheet.specs.declared.Field.{Field}
+use Rattle.sheet.specs.Field.{Field}
 use Rattle.sheet.specs.Layout.{mk, none, fixed-part, actor-part, channel-part, times, layout, total, in-bytes, in-numbers}
 
 -- The room of fields in two parts is the room of both.
@@ -18,7 +15,8 @@ unfolding total
 total-append size [] gs = omega arith
 total-append size (f ∷ fs) gs = omega (arith, total-append size fs gs)
 
-total-times : (size : Field → ℕ) (n : ℕ) (part : List Field) → total size (times n part) ≡ n * total size part
+-- The room of n times the same fields.
+pub total-times : (size : Field → ℕ) (n : ℕ) (part : List Field) → total size (times n part) ≡ n * total size part
 unfolding total times
 total-times size zero part = omega arith
 total-times size (suc n) part = omega (arith, total-append size part (times n part), total-times size n part)
@@ -65,26 +63,6 @@ length-fields (f ∷ fs) = omega (arith, length-fields fs)
 -- A graph has as many fields as numbers.
 pub layout-length : (a c : ℕ) → length (layout a c) ≡ total in-numbers (layout a c)
 layout-length a c = length-fields (layout a c)
-
--- The room of the fields from place i on is the room of field i and of those after it.
-pub total-drop :
-    (size : Field → ℕ) (fs : List Field) (i : ℕ) → i < length fs →
-    total size (drop i fs) ≡ size (getD fs i none) + total size (drop (suc i) fs)
-unfolding total
-total-drop size fs i h = ap (total size) (drop-cons fs i none h)
-
--- The room of the fields up to and with field i is the room of those before it and its own.
-pub total-take :
-    (size : Field → ℕ) (fs : List Field) (i : ℕ) → i < length fs →
-    total size (take (suc i) fs) ≡ total size (take i fs) + size (getD fs i none)
-unfolding total
-total-take size fs i h =
-    ap (total size) (take-suc fs i none h)
-    ∙ omega (arith, total-append size (take i fs) (getD fs i none ∷ []))
-
--- The room of fields is that of those before place i and of those from there on.
-pub total-split : (size : Field → ℕ) (fs : List Field) (i : ℕ) → total size (take i fs) + total size (drop i fs) ≡ total size fs
-total-split size fs i = sym (total-append size (take i fs) (drop i fs)) ∙ ap (total size) (take-append-drop i fs)
 
 times-at :
     (n : ℕ) (part : List Field) (m r : ℕ) → m < n → r < length part →
@@ -138,46 +116,3 @@ layout-channel a c i h l m =
     ∙ getD-behind times-of channels (i - 6) (omega (arith, length-times a))
     ∙ ap (λ (k : ℕ). getD channels k none) e
     ∙ times-at c (channel-part a) (j / 5) (j % 5) (omega (arith, layout-numbers a c)) (omega arith)
-
-widest : List Field → ℕ
-widest [] = 0
-widest (f ∷ fs) = max (f .width) (widest fs)
-
-widest-append : (fs gs : List Field) → widest fs ≤ 4 → widest gs ≤ 4 → widest (fs ++ gs) ≤ 4
-unfolding widest
-widest-append [] gs p q = q
-widest-append (f ∷ fs) gs p q =
-    let h : widest fs ≤ 4 = omega arith in
-    omega (arith, widest-append fs gs h q)
-
-widest-times : (n : ℕ) (part : List Field) → widest part ≤ 4 → widest (times n part) ≤ 4
-unfolding widest times
-widest-times zero part p = omega arith
-widest-times (suc n) part p = widest-append part (times n part) p (widest-times n part p)
-
-width-widest : (fs : List Field) (i : ℕ) → (getD fs i none) .width ≤ widest fs
-unfolding widest
-width-widest [] i = omega arith
-width-widest (f ∷ fs) zero = omega arith
-width-widest (f ∷ fs) (suc i) = omega (arith, width-widest fs i)
-
--- No field is wider than 4 bytes.
-pub width-le : (a c i : ℕ) → (getD (layout a c) i none) .width ≤ 4
-unfolding layout fixed-part actor-part channel-part widest
-width-le a c i =
-    let times-of : List Field = times a actor-part in
-    let channels : List Field = times c (channel-part a) in
-    le-trans
-    (width-widest (layout a c) i)
-    (widest-append (fixed-part a) (times-of ++ channels) (lit≤ tt)
-    (widest-append times-of channels
-    (widest-times a actor-part (lit≤ tt))
-    (widest-times c (channel-part a) (lit≤ tt))))
-
--- Where the same field stands at two places next to each other, it stands at each of them.
-pub twin : (at : ℕ → Field) {f : Field} (n i : ℕ) → at n ≡ f → at (suc n) ≡ f → n ≤ i → i < n + 2 → f ≡ at i
-twin at n i p q h l =
-    ⊎-elim
-    (λ (e : n ≡ i). sym p ∙ ap at e)
-    (λ (m : n < i). let e : suc n ≡ i = omega arith in sym q ∙ ap at e)
-    (eq-or-lt-of-le h)

@@ -3,6 +3,7 @@ pub mod Walk
 pub mod Fields
 pub mod Forms
 pub mod Filling
+pub mod Parts
 pub mod Unpacking
 pub mod Ranges
 pub mod Packing

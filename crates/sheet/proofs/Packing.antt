@@ -1,15 +1,13 @@
 -- 01, The sheet, byte by byte: packing, step by step.
-use mathlib.Core.Path.{_≡_, refl, _∙_, ap}
+use mathlib.Core.Path.{_≡_, _∙_, ap}
 use mathlib.Core.List.{List, [], _∷_, _++_}
-use Prim.Native.Nat.{ℕ, suc, _+_, _-_, _*_, _/_, _%_, _^_, _<_, _≤_}
-use native.Mathlib.Nat.{sub-self, sub-zero, div-one}
-use native.Mathlib.Numerals.{add-one}
+use Prim.Native.Nat.{ℕ, suc, _+_, _-_, _*_, _<_, _≤_}
+use native.Mathlib.Nat.{sub-zero}
 use native.Mathlib.Omega.{arith}
-use lib.ListN.{length, take, drop, set, getD, length-set, length-append, length-drop, drop-of-length-le}
-use lib.Seq.{set-split, length-take-le, drop-at, drop-drop}
+use lib.ListN.{length, drop, set, getD, length-append, length-drop}
+use lib.Seq.{drop-drop, sets, sets-eq}
 use borrow.Author.Tests.{le-leb, lt-leb}
 use borrow.Rule.Slice.PartMut.{putMid, midOf}
-use Rattle.sheet.specs.declared.Field.{Field}
 use Rattle.sheet.specs.declared.Refusal.{Refusal}
 use Rattle.sheet.specs.declared.Refusal.the-variants.{Room}
 use Rattle.sheet.specs.declared.Answer.the-variants.{On, No}
@@ -18,105 +16,15 @@ use Rattle.sheet.specs.Layout.{in-bytes, in-numbers, largest-sheet}
 use Rattle.sheet.specs.Fields.{to-bytes, bytes}
 use Rattle.sheet.specs.Check.{stretch, first-walk}
 use Rattle.sheet.specs.Forms.{layout-of, graphs-bytes, packed, check-numbers, pack-answer}
-use Rattle.sheet.proofs.Fields.{to-bytes-length, to-bytes-turn, bytes-length, bytes-turn}
+use Rattle.sheet.proofs.Fields.{to-bytes-length, bytes-length}
 use Rattle.sheet.proofs.Filling.{Filling, filling-start, filling-part, filling-set, filling-end, filling-inside, filling-last}
 use Rattle.sheet.proofs.Forms.{packed-length, packed-at-most}
-use Rattle.sheet.proofs.Ranges.{stretch-numbers, stretch-bytes, stretch-fields, Field-at, next-of, next-turn}
+use Rattle.sheet.proofs.Ranges.{stretch-numbers, stretch-bytes, next-of, next-turn}
 use Rattle.sheet.proofs.Walk.{part-is-drop, Walking, walking-start}
-
-drop-set : (l : List ℕ) (j a : ℕ) → j < length l → drop j (set l j a) ≡ a ∷ drop (suc j) l
-drop-set l j a h = rw (set-split l j a h) (drop-at (take j l) (a ∷ drop (suc j) l) j (length-take-le j l (omega arith)))
-
--- A number's bytes from the last one up: those from i on are in place.
-pub record Down (n width : ℕ) (before out : List ℕ) (rest i : ℕ) : Type 0 where
-  pub within : i ≤ width
-  pub same : length out ≡ length before
-  pub left : rest ≡ n / 256 ^ (width - i)
-  pub tail : drop i out ≡ to-bytes (width - i) n ++ drop width before
-
--- Before the last byte nothing is in place.
-pub down-start : (n width : ℕ) (out : List ℕ) → Down n width out out n width
-unfolding to-bytes
-down-start n width out = record { within = omega arith; same = refl; left = simp (sub-self, div-one); tail = rw sub-self }
-
--- One byte more.
-pub down-turn :
-    {n width : ℕ} {before out : List ℕ} {rest i : ℕ} → 0 < i → width ≤ length before → Down n width before out rest i →
-    Down n width before (set out (i - 1) (rest % 256)) (rest / 256) (i - 1)
-down-turn {n} {width} {before} {out} {rest} {i} p h d =
-    let back : suc (i - 1) ≡ i = omega arith in
-    let inside : i - 1 < width = omega (arith, d .within) in
-    let here : i - 1 < length out = omega (arith, d .same) in
-    let turn = rw back at (to-bytes-turn width n (i - 1) inside) in
-    record {
-      within = omega arith;
-      same = length-set out (i - 1) (rest % 256) ∙ d .same;
-      left = rw (d .left) (turn .1);
-      tail = rw (turn .0, drop-set out (i - 1) (rest % 256) here, d .left, back) (ap (λ (t : List ℕ). n / 256 ^ (width - i) % 256 ∷ t) (d .tail));
-    }
-
--- At the first byte all of them are in place.
-pub down-end :
-    {n width : ℕ} {before out : List ℕ} {rest i : ℕ} → i ≤ 0 → Down n width before out rest i →
-    out ≡ to-bytes width n ++ drop width before
-down-end {n} {width} {before} {out} {rest} {i} z d =
-    let none : i ≡ 0 = omega arith in
-    let all : drop 0 out ≡ to-bytes (width - 0) n ++ drop width before = rw none at (d .tail) in
-    rw sub-zero at all
-
--- The numbers of the graph at the start of l, written up to field i at byte `at`.
-pub record Writing (l before out : List ℕ) (i at : ℕ) : Type 0 where
-  pub room : stretch in-bytes l ≤ length before
-  pub filling : Filling before out (bytes (layout-of l) l) (bytes (drop i (layout-of l)) (drop i l)) at
 
 graph-length : (l : List ℕ) → length (bytes (layout-of l) l) ≡ stretch in-bytes l
 unfolding stretch
 graph-length l = bytes-length (layout-of l) l
-
--- Nothing is written yet.
-pub writing-start : (l out : List ℕ) → stretch in-bytes l ≤ length out → Writing l out out 0 0
-writing-start l out h = record { room = h; filling = filling-start out (bytes (layout-of l) l) }
-
--- The memory keeps its length, and what is written is within it.
-pub writing-length :
-    {l before out : List ℕ} {i at : ℕ} → Writing l before out i at →
-    (length out ≡ length before) × (at ≤ length out)
-writing-length {l} {before} {out} {i} {at} w =
-    let fits : length (bytes (layout-of l) l) ≤ length before = rw graph-length (w .room) in
-    let p = filling-inside (w .filling) fits in
-    (p .0, omega (arith, p .1))
-
-module _ {l before out : List ℕ} {i at : ℕ} {f : Field} (w : Writing l before out i at) (a : Field-at l i f) where
-  turned :
-      bytes (drop i (layout-of l)) (drop i l)
-      ≡ to-bytes (f .width) (getD l i 0) ++ bytes (drop (i + 1) (layout-of l)) (drop (i + 1) l)
-  turned = rw (a .is, add-one) (bytes-turn (layout-of l) i (a .within) l)
-
-  next :
-      Filling before out (bytes (layout-of l) l)
-      (to-bytes (f .width) (getD l i 0) ++ bytes (drop (i + 1) (layout-of l)) (drop (i + 1) l)) at
-  next = rw (← turned) (w .filling)
-
-  -- There is room for the next number.
-  pub writing-room : at + f .width ≤ length out
-  writing-room = omega (arith, simp (length-append, to-bytes-length) at (filling-inside next (rw graph-length (w .room)) .1))
-
-  -- Number i is written in field i.
-  pub writing-turn :
-      {ys : List ℕ} → ys ≡ to-bytes (f .width) (getD l i 0) ++ drop (f .width) (midOf at (length out - at) out) →
-      Writing l before (putMid at (length out - at) out ys) (i + 1) (at + f .width)
-  writing-turn {ys} e =
-      let n : length (to-bytes (f .width) (getD l i 0)) ≡ f .width = to-bytes-length (f .width) (getD l i 0) in
-      record { room = w .room; filling = rw n at (filling-part {ys = ys} (to-bytes (f .width) (getD l i 0)) next (rw n e)) }
-
--- After the last field all of the graph is written.
-pub writing-end :
-    {l before out : List ℕ} {i at : ℕ} → Writing l before out i at → stretch in-numbers l ≤ i →
-    out ≡ bytes (layout-of l) l ++ drop (stretch in-bytes l) before
-unfolding bytes
-writing-end {l} {before} {out} {i} {at} w h =
-    let g : length (layout-of l) ≤ i = omega (arith, stretch-fields l) in
-    rw (← graph-length l) (filling-end (rw (drop-of-length-le (layout-of l) g) at (w .filling)))
 
 -- The bytes from graph k on: those of the graph at place `at`, then those of the graphs behind it.
 graphs-at :
@@ -245,12 +153,12 @@ module _ {l : List ℕ} {all : ℕ} (q : Counted l all) where
 
   -- The length, the version and the graph count are written, the graphs are to come.
   pub pack-head :
-      (before out : List ℕ) → all ≤ length before → out ≡ to-bytes 2 all ++ drop 2 before →
+      (before out : List ℕ) → all ≤ length before → out ≡ sets before 0 (to-bytes 2 all) →
       Filling before (set (set out 2 1) 3 (getD l 0 0)) (packed l) (body l) 4
-  unfolding packed
+  unfolding packed to-bytes
   pack-head before out h w =
       let start : Filling before out (packed l) (1 ∷ getD l 0 0 ∷ body l) 2 =
-      record { done = to-bytes 2 all; wrote = to-bytes-length 2 all; whole = rw (q .count, part-is-drop); is = w } in
+      record { done = to-bytes 2 all; wrote = to-bytes-length 2 all; whole = rw (q .count, part-is-drop); is = w ∙ sets-eq (to-bytes 2 all) before 0 (omega (arith, q .count)) } in
       filling-set (filling-set start (omega (arith, q .count))) (omega (arith, q .count))
 
   -- With the graphs the sheet stands in the first places, and the memory keeps its length.

@@ -1,29 +1,28 @@
 -- 01, answer 6, step by step: the fields of a graph, then the graphs.
-use mathlib.Core.Path.{_≡_, refl, sym, ap, _∙_}
-use mathlib.Core.Bool.{true, false, _&&_}
-use mathlib.Core.List.{List, [], _∷_}
+use mathlib.Core.Path.{_≡_, refl, sym, _∙_}
+use mathlib.Core.Bool.{Bool, true, false, _&&_}
+use mathlib.Core.List.{List, [], _∷_, _++_}
 use Prim.Native.Nat.{ℕ, suc, _+_, _-_, _*_, _≤_, _<_}
-use native.Mathlib.Nat.{sub-zero}
+use native.Mathlib.Nat.{sub-zero, add-zero}
 use native.Mathlib.Numerals.{add-one}
 use native.Mathlib.Omega.{arith}
-use lib.Dec.{leb}
-use lib.Seq.{drop-drop}
-use lib.ListN.{length, getD, take, drop, drop-of-length-le}
-use borrow.Author.Tests.{le-leb, lt-leb}
-use Rattle.units.specs.Bounds.{max-graphs}
-use Rattle.sheet.specs.declared.Field.{Field}
+use lib.Seq.{drop-drop, getD-drop}
+use lib.ListN.{length, getD, take, drop}
+use Rattle.units.specs.Bounds.{max-graphs, max-actors, max-channels, max-ticks, max-time, max-rate, max-tokens}
+use Rattle.units.specs.Within.{between}
+use Rattle.sheet.specs.Field.{Field}
 use Rattle.sheet.specs.declared.Refusal.{Refusal}
 use Rattle.sheet.specs.declared.Refusal.the-variants.{Range}
 use Rattle.sheet.specs.declared.Answer.the-variants.{On, No}
 use Rattle.sheet.specs.Answer.{unless}
-use Rattle.sheet.specs.Layout.{none, layout, total, in-bytes, in-numbers}
+use Rattle.sheet.specs.Layout.{fixed-part, actor-part, channel-part, times, layout, total, in-bytes, in-numbers}
 use Rattle.sheet.specs.Fields.{in-range}
 use Rattle.sheet.specs.Check.{actor-count, channel-count, sized, stretch, first-walk, check-list}
 use Rattle.sheet.specs.Forms.{layout-of, range-walk, check-numbers}
-use Rattle.sheet.proofs.GraphLayout.{layout-bytes, layout-numbers, length-fields}
-use Rattle.sheet.proofs.Fields.{range-turn}
+use Rattle.sheet.proofs.GraphLayout.{layout-bytes, layout-numbers}
 use Rattle.sheet.proofs.Forms.{Graphs, graphs-on}
-use Rattle.sheet.proofs.Walk.{part-is-drop, Passed, graph-on, Walking, walking-start, walking-turn, walking-on}
+use Rattle.sheet.proofs.Parts.{sizes-numbers, actors-total}
+use Rattle.sheet.proofs.Walk.{part-is-drop, and-true, Passed, graph-on, Walking, walking-start, walking-turn, walking-on}
 
 -- The graph at the start of l is 6 numbers, one for each actor and 5 for each channel.
 pub stretch-numbers : (l : List ℕ) → stretch in-numbers l ≡ 6 + actor-count l + 5 * channel-count l
@@ -35,60 +34,119 @@ pub stretch-bytes : (l : List ℕ) → stretch in-bytes l ≡ 12 + 4 * actor-cou
 unfolding stretch
 stretch-bytes l = layout-bytes (actor-count l) (channel-count l)
 
--- Its fields are a number each.
-pub stretch-fields : (l : List ℕ) → stretch in-numbers l ≡ length (layout-of l)
-unfolding stretch
-stretch-fields l = sym (length-fields (layout-of l))
-
--- Field i of the graph at the start of l is f.
-pub record Field-at (l : List ℕ) (i : ℕ) (f : Field) : Type 0 where
-  pub within : i < length (layout-of l)
-  pub is : f ≡ getD (layout-of l) i none
-
--- What holds of field i whatever the number of channels holds of this graph's.
-pub field-at :
-    (l : List ℕ) (i : ℕ) (f : Field) →
-    ((c : ℕ) → i < total in-numbers (layout (actor-count l) c) → f ≡ getD (layout (actor-count l) c) i none) →
-    i < stretch in-numbers l → Field-at l i f
-unfolding stretch
-field-at l i f e h = record { within = omega (arith, length-fields (layout-of l)); is = e (channel-count l) h }
-
--- What is left of the graph at field i decides whether it is in range.
-pub record Ranging (l : List ℕ) (i : ℕ) : Type 0 where
-  pub rest : in-range (drop i (layout-of l)) (drop i l) ≡ in-range (layout-of l) l
-
--- The first field is still to come.
-pub ranging-start : (l : List ℕ) → Ranging l 0
-ranging-start l = record { rest = refl }
-
-module _ {l : List ℕ} {i : ℕ} {f : Field} (r : Ranging l i) (a : Field-at l i f) where
-  turned :
-      in-range (layout-of l) l
-      ≡ ((leb (f .low) (getD l i 0) && leb (getD l i 0) (f .high)) && in-range (drop (suc i) (layout-of l)) (drop (suc i) l))
-  turned = rw (← r .rest, a .is) (range-turn (layout-of l) i (a .within) l)
-
-  -- A number below its field's least is out of range.
-  pub ranging-low : getD l i 0 < f .low → false ≡ in-range (layout-of l) l
-  ranging-low h = rw (turned, lt-leb _ _ h)
-
-  -- A number above its field's greatest is out of range.
-  pub ranging-high : f .low ≤ getD l i 0 → f .high < getD l i 0 → false ≡ in-range (layout-of l) l
-  ranging-high h g = rw (turned, le-leb _ _ h, lt-leb _ _ g)
-
-  -- Any other number leaves it to the fields after it.
-  pub ranging-turn : f .low ≤ getD l i 0 → getD l i 0 ≤ f .high → Ranging l (i + 1)
-  ranging-turn h g = record { rest = rw (turned, le-leb _ _ h, le-leb _ _ g, add-one) }
-
--- After the last field the graph is in range.
-pub ranging-end : {l : List ℕ} {i : ℕ} → Ranging l i → stretch in-numbers l ≤ i → true ≡ in-range (layout-of l) l
-unfolding in-range
-ranging-end {l} {i} r h =
-    let g : length (layout-of l) ≤ i = omega (arith, stretch-fields l) in
-    ap (λ (L : List Field). in-range L (drop i l)) (sym (drop-of-length-le (layout-of l) g)) ∙ r .rest
-
 -- The numbers from the graph at place `at` on.
 abbrev pub next-of : List ℕ → ℕ → List ℕ
 next-of l at = take (length l - at) (drop at l)
+
+and-assoc : (a b c : Bool) → ((a && b) && c) ≡ (a && (b && c))
+and-assoc true b c = refl
+and-assoc false b c = refl
+
+and-only : (a : Bool) → (a && true) ≡ a
+and-only true = refl
+and-only false = refl
+
+range-append : (L M : List Field) (l : List ℕ) → in-range (L ++ M) l ≡ (in-range L l && in-range M (drop (total in-numbers L) l))
+unfolding in-range total
+range-append [] M l = refl
+range-append (f ∷ L) M l =
+    rw (range-append L M (drop 1 l), drop-drop)
+    (sym (and-assoc (between (f .low) (f .high) (getD l 0 0)) (in-range L (drop 1 l)) (in-range M (drop (1 + total in-numbers L) l))))
+
+-- n times the same part, of which k are in range: those from place `at` of l on decide.
+pub record Ranging (part : List Field) (n : ℕ) (l : List ℕ) (k at : ℕ) : Type 0 where
+  pub within : k ≤ n
+  pub rest : in-range (times (n - k) part) (drop at l) ≡ in-range (times n part) l
+
+-- The first of them is still to come.
+pub ranging-start : (part : List Field) (n : ℕ) (l : List ℕ) → Ranging part n l 0 0
+ranging-start part n l = record { within = omega arith; rest = rw sub-zero }
+
+module _
+    {part : List Field} {n : ℕ} {l : List ℕ} {k at : ℕ} {b : Bool} (r : Ranging part n l k at) (h : k < n)
+    (e : b ≡ in-range part (next-of l at)) where
+  turned : in-range (times n part) l ≡ (b && in-range (times (n - (k + 1)) part) (drop (at + total in-numbers part) l))
+  unfolding times
+  turned =
+      let m : n - k ≡ suc (n - (k + 1)) = omega arith in
+      sym (r .rest) ∙ rw (m, range-append part (times (n - (k + 1)) part) (drop at l), drop-drop, e, part-is-drop)
+
+  -- One out of range decides.
+  pub ranging-no : b ≡ false → false ≡ in-range (times n part) l
+  ranging-no d = rw (turned, d)
+
+  -- One in range leaves it to those behind it.
+  pub ranging-turn : b ≡ true → {at' : ℕ} → at' ≡ at + total in-numbers part → Ranging part n l (k + 1) at'
+  ranging-turn d q = record { within = omega arith; rest = rw (turned, d, q) }
+
+-- After the last of them all are in range.
+pub ranging-end : {part : List Field} {n : ℕ} {l : List ℕ} {k at : ℕ} → Ranging part n l k at → n ≤ k → true ≡ in-range (times n part) l
+unfolding times in-range
+ranging-end {part} {n} {l} {k} {at} r h =
+    let e : n - k ≡ 0 = omega arith in
+    rw e at (r .rest)
+
+-- The worst-case time at place `at`.
+pub time-range : (l : List ℕ) (at : ℕ) → between 0 max-time (getD l at 0) ≡ in-range actor-part (next-of l at)
+unfolding in-range actor-part
+time-range l at = rw (and-only, part-is-drop, getD-drop, add-zero)
+
+-- A channel's five numbers.
+pub channel-range :
+    (a : ℕ) (l : List ℕ) →
+    (((between 0 (a - 1) (getD l 0 0) && between 0 (a - 1) (getD l 1 0))
+    && (between 1 max-rate (getD l 2 0) && between 1 max-rate (getD l 3 0)))
+    && between 0 max-tokens (getD l 4 0))
+    ≡ in-range (channel-part a) l
+unfolding in-range channel-part
+channel-range a l = simp (and-assoc, and-only, getD-drop, drop-drop)
+
+-- The fixed part's numbers behind the counts, where those are within their bounds.
+pub fixed-range :
+    (l : List ℕ) → sized l ≡ true → let a = actor-count l in
+    (((between 0 (a - 1) (getD l 2 0) && between 0 (a - 1) (getD l 3 0)) && between 1 max-ticks (getD l 4 0)) && between 1 max-ticks (getD l 5 0))
+    ≡ in-range (fixed-part a) l
+unfolding in-range fixed-part sized
+fixed-range l e =
+    let p : (between 1 max-actors (actor-count l) ≡ true) × (between 0 max-channels (channel-count l) ≡ true) = and-true _ _ e in
+    simp (p .0, p .1, and-assoc, and-only, getD-drop, drop-drop)
+
+-- A graph is in range where its fixed part, its actors and its channels are.
+graph-range :
+    (l : List ℕ) → let a = actor-count l in let c = channel-count l in
+    in-range (layout-of l) l
+    ≡ (in-range (fixed-part a) l && (in-range (times a actor-part) (next-of l 6) && in-range (times c (channel-part a)) (next-of l (6 + a))))
+unfolding layout
+graph-range l =
+    let a : ℕ = actor-count l in
+    let rest : List Field = times (channel-count l) (channel-part a) in
+    let few : total in-numbers (times a actor-part) ≡ a = omega (arith, actors-total sizes-numbers a) in
+    rw (
+      range-append (fixed-part a) (times a actor-part ++ rest) l,
+      sizes-numbers .fixed-is a,
+      range-append (times a actor-part) rest (drop 6 l),
+      few,
+      drop-drop,
+      part-is-drop l 6,
+      part-is-drop l (6 + a),
+    )
+
+module _ (l : List ℕ) where
+  -- A fixed part out of range decides.
+  pub graph-fixed-no : in-range (fixed-part (actor-count l)) l ≡ false → false ≡ in-range (layout-of l) l
+  graph-fixed-no e = rw (graph-range l, e)
+
+  -- Then the actors do.
+  pub graph-actors-no :
+      in-range (fixed-part (actor-count l)) l ≡ true → in-range (times (actor-count l) actor-part) (next-of l 6) ≡ false →
+      false ≡ in-range (layout-of l) l
+  graph-actors-no e d = rw (graph-range l, e, d)
+
+  -- Then the channels.
+  pub graph-channels-are :
+      in-range (fixed-part (actor-count l)) l ≡ true → in-range (times (actor-count l) actor-part) (next-of l 6) ≡ true →
+      in-range (times (channel-count l) (channel-part (actor-count l))) (next-of l (6 + actor-count l)) ≡ in-range (layout-of l) l
+  graph-channels-are e d = rw (graph-range l, e, d)
 
 -- The graph to come in a walk that does not refuse: its counts are within bounds and all of it is there.
 pub next-stands :

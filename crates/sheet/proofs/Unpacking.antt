@@ -1,26 +1,24 @@
 -- 01, The sheet, byte by byte: a graph's bytes are unpacked field by field, and a sheet's graphs one after the other.
-use mathlib.Core.Path.{_≡_, refl, sym, _∙_}
+use mathlib.Core.Path.{_≡_, sym, _∙_}
 use mathlib.Core.Bool.{true}
 use mathlib.Core.List.{List, _++_}
 use Prim.Native.Nat.{ℕ, suc, _+_, _-_, _≤_, _<_}
 use native.Mathlib.Nat.{sub-zero}
-use native.Mathlib.Numerals.{add-one}
 use native.Mathlib.Omega.{arith}
-use lib.ListN.{length, getD, take, drop, set, length-set, length-append, length-drop, drop-of-length-le}
+use lib.ListN.{length, getD, take, drop, set, length-set, length-append, length-drop}
 use lib.Seq.{drop-drop}
 use borrow.Author.Tests.{le-leb, lt-leb}
 use borrow.Rule.Slice.PartMut.{putMid, midOf}
-use Rattle.sheet.specs.declared.Field.{Field}
 use Rattle.sheet.specs.declared.Answer.the-variants.{On, No}
 use Rattle.sheet.specs.declared.Refusal.{Refusal}
 use Rattle.sheet.specs.declared.Refusal.the-variants.{Room}
 use Rattle.sheet.specs.declared.Written.the-variants.{Wrote, Refused}
-use Rattle.sheet.specs.Layout.{none, layout, total, in-bytes, in-numbers}
-use Rattle.sheet.specs.Fields.{big-endian, numbers}
+use Rattle.sheet.specs.Layout.{layout, total, in-bytes, in-numbers}
+use Rattle.sheet.specs.Fields.{numbers}
 use Rattle.sheet.specs.Check.{sized, stretch, first-walk, check-sheet}
 use Rattle.sheet.specs.Forms.{layout-of, graphs-numbers, unpacked, unpack-answer}
-use Rattle.sheet.proofs.GraphLayout.{layout-bytes, layout-numbers, layout-length, total-drop, width-le}
-use Rattle.sheet.proofs.Fields.{numbers-length, numbers-turn}
+use Rattle.sheet.proofs.GraphLayout.{layout-bytes, layout-numbers, layout-length}
+use Rattle.sheet.proofs.Fields.{numbers-length}
 use Rattle.sheet.proofs.Walk.{Walking, walking-start, walking-turn, walking-on, Passed, graph-on, stretch-at, part-is-drop}
 use Rattle.sheet.proofs.Filling.{Filling, filling-start, filling-set, filling-part, filling-end, filling-inside, filling-last}
 
@@ -28,63 +26,6 @@ use Rattle.sheet.proofs.Filling.{Filling, filling-start, filling-set, f
 graph-length : (s : List ℕ) → length (numbers (layout-of s) s) ≡ stretch in-numbers s
 unfolding stretch
 graph-length s = numbers-length (layout-of s) s ∙ layout-length (getD s 0 0) (getD s 1 0)
-
--- The graph at the start of s has n fields. Those before field i are in the list; field i begins at byte `at`.
-pub record Reading (s before now : List ℕ) (n i at : ℕ) : Type 0 where
-  pub count : length (layout-of s) ≡ n
-  pub within : i ≤ n
-  pub room : n ≤ length now
-  pub kept : length now ≡ length before
-  pub there : at + total in-bytes (drop i (layout-of s)) ≤ length s
-  pub filling : Filling before now (numbers (layout-of s) s) (numbers (drop i (layout-of s)) (drop at s)) i
-
--- No field is in the list yet.
-pub reading-start :
-    {s before : List ℕ} {n : ℕ} → n ≡ total in-numbers (layout (getD s 0 0) (getD s 1 0)) → stretch in-bytes s ≤ length s →
-    stretch in-numbers s ≤ length before → Reading s before before n 0 0
-unfolding stretch
-reading-start {s} {before} {n} e h room =
-    record {
-      count = layout-length (getD s 0 0) (getD s 1 0) ∙ sym e;
-      within = omega arith;
-      room = omega arith;
-      kept = refl;
-      there = omega arith;
-      filling = filling-start before (numbers (layout-of s) s);
-    }
-
--- Field i is there, and is no wider than 4 bytes.
-pub reading-field :
-    {s before now : List ℕ} {n i at : ℕ} → Reading s before now n i at → i < n → (f : Field) → f ≡ getD (layout-of s) i none →
-    (f .width ≤ length (take (length s - at) (drop at s))) × (f .width ≤ 4)
-reading-field {s} {before} {now} {n} {i} {at} r h f e =
-    let l : i < length (layout-of s) = omega arith in
-    rw (part-is-drop s at, length-drop at s, e)
-    (omega (arith, total-drop in-bytes (layout-of s) i l), width-le (getD s 0 0) (getD s 1 0) i)
-
--- The number of field i is written, and the next field begins behind it.
-pub reading-turn :
-    {s before now : List ℕ} {n i at : ℕ} → Reading s before now n i at → i < n → (f : Field) → f ≡ getD (layout-of s) i none → (v : ℕ) →
-    v ≡ big-endian (f .width) (take (length s - at) (drop at s)) → Reading s before (set now i v) n (i + 1) (at + f .width)
-reading-turn {s} {before} {now} {n} {i} {at} r h f e v q =
-    let l : i < length (layout-of s) = omega arith in
-    record {
-      count = r .count;
-      within = omega arith;
-      room = simp length-set (r .room);
-      kept = simp length-set (r .kept);
-      there = rw (e, add-one) (omega (arith, total-drop in-bytes (layout-of s) i l));
-      filling = rw (q, part-is-drop s at, e) (filling-set (rw (numbers-turn (layout-of s) i l s at, ← add-one i) at (r .filling)) (omega arith));
-    }
-
--- Every field is in the list.
-pub reading-end :
-    {s before now : List ℕ} {n i at : ℕ} → Reading s before now n i at → n ≤ i →
-    now ≡ numbers (layout-of s) s ++ drop (stretch in-numbers s) before
-unfolding numbers
-reading-end {s} {before} {now} {n} {i} {at} r h =
-    let l : length (layout-of s) ≤ i = omega arith in
-    rw (← graph-length s) (filling-end (rw (drop-of-length-le (layout-of s) l) at (r .filling)))
 
 module _ (n k at : ℕ) (s : List ℕ) (h : k < n) where
   -- The numbers from graph k on are its own and those of the graphs behind it.

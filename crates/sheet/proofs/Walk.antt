@@ -16,7 +16,7 @@ use Rattle.sheet.specs.declared.Refusal.{Refusal}
 use Rattle.sheet.specs.declared.Refusal.the-variants.{Count, Cut, Size}
 use Rattle.sheet.specs.declared.Answer.{Answer}
 use Rattle.sheet.specs.declared.Answer.the-variants.{On, No}
-use Rattle.sheet.specs.declared.Field.{Field}
+use Rattle.sheet.specs.Field.{Field}
 use Rattle.sheet.specs.Answer.{unless, then}
 use Rattle.sheet.specs.Layout.{fixed-part, layout, total}
 use Rattle.sheet.specs.Check.{actor-count, channel-count, sized, stretch, graph-check, first-walk, check-graphs}

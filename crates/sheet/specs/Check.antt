@@ -9,7 +9,7 @@ use Rattle.units.specs.Within.{between}
 use Rattle.sheet.specs.declared.Answer.{Answer}
 use Rattle.sheet.specs.declared.Answer.the-variants.{On}
 use Rattle.sheet.specs.declared.Refusal.the-variants.{Length, Version, Count, Cut, Size}
-use Rattle.sheet.specs.declared.Field.{Field}
+use Rattle.sheet.specs.Field.{Field}
 use Rattle.sheet.specs.Answer.{unless, then}
 use Rattle.sheet.specs.Layout.{fixed-part, layout, total, in-bytes, in-numbers}
 use Rattle.sheet.specs.Fields.{big-endian}

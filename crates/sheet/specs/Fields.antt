@@ -4,7 +4,7 @@ use mathlib.Core.List.{List, [], _∷_, _++_}
 use Prim.Native.Nat.{ℕ, zero, suc, _+_, _*_, _/_, _%_, _^_, _<_}
 use lib.ListN.{length, getD, drop}
 use Rattle.units.specs.Within.{between}
-use Rattle.sheet.specs.declared.Field.{Field}
+use Rattle.sheet.specs.Field.{Field}
 
 -- The number that the first `width` bytes of s make.
 unfoldable pub big-endian : ℕ → List ℕ → ℕ

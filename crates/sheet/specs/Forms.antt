@@ -2,7 +2,7 @@
 use mathlib.Core.List.{List, [], _∷_, _++_}
 use Prim.Native.Nat.{ℕ, zero, suc, _+_}
 use lib.ListN.{length, getD, drop}
-use Rattle.sheet.specs.declared.Field.{Field}
+use Rattle.sheet.specs.Field.{Field}
 use Rattle.sheet.specs.declared.Answer.{Answer}
 use Rattle.sheet.specs.declared.Answer.the-variants.{On}
 use Rattle.sheet.specs.declared.Refusal.the-variants.{Range}

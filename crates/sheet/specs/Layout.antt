@@ -3,7 +3,7 @@
 use mathlib.Core.List.{List, [], _∷_, _++_}
 use Prim.Native.Nat.{ℕ, zero, suc, _+_, _-_}
 use Rattle.units.specs.Bounds.{max-actors, max-channels, max-rate, max-ticks, max-time, max-tokens}
-use Rattle.sheet.specs.declared.Field.{Field}
+use Rattle.sheet.specs.Field.{Field}
 
 -- A field: its width, its least and its greatest number.
 abbrev pub mk : ℕ → ℕ → ℕ → Field

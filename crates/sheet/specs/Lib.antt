@@ -1,4 +1,5 @@
 pub mod Answer
+pub mod Field
 pub mod Layout
 pub mod Fields
 pub mod Check

@@ -1,8 +1,8 @@
 // Answers 1 to 5 for both forms, in document 01's order.
 ghost use mathlib.Core.Path.{_≡_};
 ghost use mathlib.Core.Bool.{_&&_};
-ghost use Prim.Native.Nat.{_≤_};
-ghost use lib.ListN.{length};
+ghost use Prim.Native.Nat.{_+_, _<_, _≤_};
+ghost use lib.ListN.{length, drop};
 ghost use Rattle.units.specs.Bounds.{max-actors, max-channels};
 ghost use Rattle.units.specs.Within.{between};
 ghost use Rattle.sheet.specs.Layout.{in-bytes, in-numbers};
@@ -18,18 +18,19 @@ use super::layout::MAX_GRAPHS;
 use super::layout::bytes_of;
 use super::layout::numbers_of;
 
-// 01: numbers are big-endian.
-pub fn number(s: &[u8], width: usize) -> u32
-    requires { ⌜ (width ≤ length (now s)) × (width ≤ 4) ⌝ }
-    ensures { λ r. ⌜ r ≡ big-endian width (now (s .entry)) ⌝ }
+// 01: numbers are big-endian. Fields of two and of four bytes, at place `at`.
+pub fn two(s: &[u8], at: usize) -> u32
+    requires { ⌜ at + 2 ≤ length (now s) ⌝ }
+    ensures { λ r. ⌜ (r ≡ big-endian 2 (drop at (now (s .entry)))) × (r < 65536) ⌝ }
 {
-    let mut n: u32 = 0;
-    let mut i = 0;
-    while i < width {
-        n = n * 256 + s[i] as u32;
-        i += 1;
-    }
-    n
+    s[at] as u32 * 256 + s[at + 1] as u32
+}
+
+pub fn four(s: &[u8], at: usize) -> u32
+    requires { ⌜ at + 4 ≤ length (now s) ⌝ }
+    ensures { λ r. ⌜ r ≡ big-endian 4 (drop at (now (s .entry))) ⌝ }
+{
+    two(s, at) * 65536 + two(s, at + 2)
 }
 
 fn sized(actors: usize, channels: usize) -> bool
@@ -127,7 +128,7 @@ pub fn sheet(s: &[u8]) -> Answer
     if s.len() < 4 {
         return Answer::No(Refusal::Length);
     }
-    if number(s, 2) as usize != s.len() {
+    if two(s, 0) as usize != s.len() {
         return Answer::No(Refusal::Length);
     }
     if s[2] != 1 {

@@ -2,7 +2,7 @@
 ghost use mathlib.Core.Path.{_≡_};
 ghost use Rattle.sheet.specs.Answer.{numberOf, placeOf};
 
-pub mod layout; // the fields of a graph
+pub mod layout; // the room of a graph
 pub mod check; // answers 1 to 5
 pub mod range; // answer 6
 pub mod unpack; // bytes to numbers
@@ -83,11 +83,4 @@ pub enum Answer {
 pub enum Written {
     Wrote(usize),
     Refused(Refusal),
-}
-
-// A field of a graph: its width in bytes and the numbers that it may hold.
-pub struct Field {
-    pub width: usize,
-    pub low: u64,
-    pub high: u64,
 }

@@ -2,10 +2,11 @@
 ghost use mathlib.Core.Path.{_≡_};
 ghost use mathlib.Core.Bool.{true};
 ghost use mathlib.Core.List.{_++_};
-ghost use Prim.Native.Nat.{_≤_};
+ghost use Prim.Native.Nat.{_+_, _*_, _≤_};
 ghost use lib.ListN.{length, drop};
+ghost use lib.Seq.{sets};
 ghost use Rattle.sheet.specs.declared.Answer.the-variants.{On};
-ghost use Rattle.sheet.specs.Layout.{in-bytes, in-numbers};
+ghost use Rattle.sheet.specs.Layout.{fixed-part, actor-part, channel-part, times, in-bytes, in-numbers};
 ghost use Rattle.sheet.specs.Answer.{filled};
 ghost use Rattle.sheet.specs.Fields.{to-bytes, bytes};
 ghost use Rattle.sheet.specs.Check.{sized, stretch, first-walk};
@@ -13,21 +14,88 @@ ghost use Rattle.sheet.specs.Forms.{layout-of, graphs-bytes, packed, pac
 use super::Answer;
 use super::Refusal;
 use super::Written;
+use super::layout::ACTOR_BYTES;
+use super::layout::CHANNEL;
+use super::layout::CHANNEL_BYTES;
+use super::layout::FIXED;
+use super::layout::FIXED_BYTES;
 use super::layout::bytes_of;
-use super::layout::field;
 use super::range::stretch;
 
-// n in a field of that width, into the first places of the bytes.
-fn number(n: u32, width: usize, out: &mut [u8])
-    requires { ⌜ width ≤ length (now out) ⌝ }
-    ensures { λ _. ⌜ now (out .exit) ≡ to-bytes width n ++ drop width (now (out .entry)) ⌝ }
+// n in a field of two bytes, at place `at`.
+fn two(n: u32, at: usize, out: &mut [u8])
+    requires { ⌜ at + 2 ≤ length (now out) ⌝ }
+    ensures { λ _. ⌜ now (out .exit) ≡ sets (now (out .entry)) at (to-bytes 2 n) ⌝ }
 {
-    let mut rest = n;
-    let mut i = width;
-    while 0 < i {
-        i -= 1;
-        out[i] = (rest % 256) as u8;
-        rest /= 256;
+    out[at] = (n / 256 % 256) as u8;
+    out[at + 1] = (n % 256) as u8;
+}
+
+fn four(n: u32, at: usize, out: &mut [u8])
+    requires { ⌜ at + 4 ≤ length (now out) ⌝ }
+    ensures { λ _. ⌜ now (out .exit) ≡ sets (now (out .entry)) at (to-bytes 4 n) ⌝ }
+{
+    two(n / 65536, at, out);
+    two(n, at + 2, out);
+}
+
+// The fixed part: four bytes and two numbers of four bytes.
+fn fixed(l: &[u32], out: &mut [u8])
+    requires { ⌜ (6 ≤ length (now l)) × (12 ≤ length (now out)) ⌝ }
+    ensures { λ _. ⌜ now (out .exit) ≡ bytes (fixed-part 0) (now (l .entry)) ++ drop 12 (now (out .entry)) ⌝ }
+{
+    out[0] = (l[0] % 256) as u8;
+    out[1] = (l[1] % 256) as u8;
+    out[2] = (l[2] % 256) as u8;
+    out[3] = (l[3] % 256) as u8;
+    four(l[4], 4, out);
+    four(l[5], 8, out);
+}
+
+// One worst-case time.
+fn time(l: &[u32], out: &mut [u8])
+    requires { ⌜ (1 ≤ length (now l)) × (4 ≤ length (now out)) ⌝ }
+    ensures { λ _. ⌜ now (out .exit) ≡ bytes actor-part (now (l .entry)) ++ drop 4 (now (out .entry)) ⌝ }
+{
+    four(l[0], 0, out);
+}
+
+// The worst-case times of n actors.
+fn times(l: &[u32], n: usize, out: &mut [u8])
+    requires { ⌜ (n ≤ length (now l)) × (4 * n ≤ length (now out)) ⌝ }
+    ensures { λ _. ⌜ now (out .exit) ≡ bytes (times n actor-part) (now (l .entry)) ++ drop (4 * n) (now (out .entry)) ⌝ }
+{
+    let mut k = 0;
+    while k < n {
+        let to = ACTOR_BYTES * k;
+        time(&l[k..], &mut out[to..]);
+        k += 1;
+    }
+}
+
+// One channel: two bytes and three numbers of two bytes.
+fn channel(l: &[u32], out: &mut [u8])
+    requires { ⌜ (5 ≤ length (now l)) × (8 ≤ length (now out)) ⌝ }
+    ensures { λ _. ⌜ now (out .exit) ≡ bytes (channel-part 0) (now (l .entry)) ++ drop 8 (now (out .entry)) ⌝ }
+{
+    out[0] = (l[0] % 256) as u8;
+    out[1] = (l[1] % 256) as u8;
+    two(l[2], 2, out);
+    two(l[3], 4, out);
+    two(l[4], 6, out);
+}
+
+// n channels.
+fn channels(l: &[u32], n: usize, out: &mut [u8])
+    requires { ⌜ (5 * n ≤ length (now l)) × (8 * n ≤ length (now out)) ⌝ }
+    ensures { λ _. ⌜ now (out .exit) ≡ bytes (times n (channel-part 0)) (now (l .entry)) ++ drop (8 * n) (now (out .entry)) ⌝ }
+{
+    let mut k = 0;
+    while k < n {
+        let at = CHANNEL * k;
+        let to = CHANNEL_BYTES * k;
+        channel(&l[at..], &mut out[to..]);
+        k += 1;
     }
 }
 
@@ -44,17 +112,12 @@ fn graph(l: &[u32], out: &mut [u8])
     requires { ⌜ (sized (now l) ≡ true) × (stretch in-numbers (now l) ≤ length (now l)) × (stretch in-bytes (now l) ≤ length (now out)) ⌝ }
     ensures { λ _. ⌜ now (out .exit) ≡ bytes (layout-of (now (l .entry))) (now (l .entry)) ++ drop (stretch in-bytes (now (l .entry))) (now (out .entry)) ⌝ }
 {
-    let actors = l[0] as u64;
-    let fields = stretch(l);
-    let mut i = 0;
-    let mut at = 0;
-    while i < fields {
-        let f = field(actors, i);
-        let width = f.width;
-        number(l[i], width, &mut out[at..]);
-        at += width;
-        i += 1;
-    }
+    let n = l[0] as usize;
+    let at = FIXED + n;
+    let to = FIXED_BYTES + ACTOR_BYTES * n;
+    fixed(l, out);
+    times(&l[FIXED..], n, &mut out[FIXED_BYTES..]);
+    channels(&l[at..], l[1] as usize, &mut out[to..]);
 }
 
 // How many bytes the n graphs of l have.
@@ -106,7 +169,7 @@ pub fn list(l: &[u32], out: &mut [u8]) -> Written
     if out.len() < all {
         return Written::Refused(Refusal::Room);
     }
-    number(all as u32, 2, out);
+    two(all as u32, 0, out);
     out[2] = 1;
     out[3] = n as u8;
     graphs(&l[1..], n, &mut out[4..]);

@@ -2,10 +2,10 @@
 ghost use mathlib.Core.Path.{_≡_};
 ghost use mathlib.Core.Bool.{true};
 ghost use mathlib.Core.List.{_++_};
-ghost use Prim.Native.Nat.{_≤_};
+ghost use Prim.Native.Nat.{_*_, _≤_};
 ghost use lib.ListN.{length, drop};
 ghost use Rattle.sheet.specs.declared.Answer.the-variants.{On};
-ghost use Rattle.sheet.specs.Layout.{in-bytes, in-numbers};
+ghost use Rattle.sheet.specs.Layout.{fixed-part, actor-part, channel-part, times, in-bytes, in-numbers};
 ghost use Rattle.sheet.specs.Answer.{filled};
 ghost use Rattle.sheet.specs.Fields.{numbers};
 ghost use Rattle.sheet.specs.Check.{sized, stretch, first-walk};
@@ -13,27 +13,87 @@ ghost use Rattle.sheet.specs.Forms.{layout-of, graphs-numbers, unpacked,
 use super::Answer;
 use super::Refusal;
 use super::Written;
-use super::check::number;
+use super::check::four;
+use super::check::two;
+use super::layout::ACTOR_BYTES;
+use super::layout::CHANNEL;
+use super::layout::CHANNEL_BYTES;
+use super::layout::FIXED;
+use super::layout::FIXED_BYTES;
 use super::layout::bytes_of;
-use super::layout::field;
 use super::layout::numbers_of;
+
+// The fixed part: four bytes and two numbers of four bytes.
+fn fixed(s: &[u8], list: &mut [u32])
+    requires { ⌜ (12 ≤ length (now s)) × (6 ≤ length (now list)) ⌝ }
+    ensures { λ _. ⌜ now (list .exit) ≡ numbers (fixed-part 0) (now (s .entry)) ++ drop 6 (now (list .entry)) ⌝ }
+{
+    list[0] = s[0] as u32;
+    list[1] = s[1] as u32;
+    list[2] = s[2] as u32;
+    list[3] = s[3] as u32;
+    list[4] = four(s, 4);
+    list[5] = four(s, 8);
+}
+
+// One worst-case time.
+fn time(s: &[u8], list: &mut [u32])
+    requires { ⌜ (4 ≤ length (now s)) × (1 ≤ length (now list)) ⌝ }
+    ensures { λ _. ⌜ now (list .exit) ≡ numbers actor-part (now (s .entry)) ++ drop 1 (now (list .entry)) ⌝ }
+{
+    list[0] = four(s, 0);
+}
+
+// The worst-case times of n actors.
+fn times(s: &[u8], n: usize, list: &mut [u32])
+    requires { ⌜ (4 * n ≤ length (now s)) × (n ≤ length (now list)) ⌝ }
+    ensures { λ _. ⌜ now (list .exit) ≡ numbers (times n actor-part) (now (s .entry)) ++ drop n (now (list .entry)) ⌝ }
+{
+    let mut k = 0;
+    while k < n {
+        let at = ACTOR_BYTES * k;
+        time(&s[at..], &mut list[k..]);
+        k += 1;
+    }
+}
+
+// One channel: two bytes and three numbers of two bytes.
+fn channel(s: &[u8], list: &mut [u32])
+    requires { ⌜ (8 ≤ length (now s)) × (5 ≤ length (now list)) ⌝ }
+    ensures { λ _. ⌜ now (list .exit) ≡ numbers (channel-part 0) (now (s .entry)) ++ drop 5 (now (list .entry)) ⌝ }
+{
+    list[0] = s[0] as u32;
+    list[1] = s[1] as u32;
+    list[2] = two(s, 2);
+    list[3] = two(s, 4);
+    list[4] = two(s, 6);
+}
+
+// n channels.
+fn channels(s: &[u8], n: usize, list: &mut [u32])
+    requires { ⌜ (8 * n ≤ length (now s)) × (5 * n ≤ length (now list)) ⌝ }
+    ensures { λ _. ⌜ now (list .exit) ≡ numbers (times n (channel-part 0)) (now (s .entry)) ++ drop (5 * n) (now (list .entry)) ⌝ }
+{
+    let mut k = 0;
+    while k < n {
+        let at = CHANNEL_BYTES * k;
+        let to = CHANNEL * k;
+        channel(&s[at..], &mut list[to..]);
+        k += 1;
+    }
+}
 
 // The graph at the start of its stretch of bytes, into the first places of the list.
 fn graph(s: &[u8], list: &mut [u32])
     requires { ⌜ (sized (now s) ≡ true) × (stretch in-bytes (now s) ≤ length (now s)) × (stretch in-numbers (now s) ≤ length (now list)) ⌝ }
     ensures { λ _. ⌜ now (list .exit) ≡ numbers (layout-of (now (s .entry))) (now (s .entry)) ++ drop (stretch in-numbers (now (s .entry))) (now (list .entry)) ⌝ }
 {
-    let actors = s[0] as u64;
-    let fields = numbers_of(s[0] as usize, s[1] as usize);
-    let mut i = 0;
-    let mut at = 0;
-    while i < fields {
-        let f = field(actors, i);
-        let width = f.width;
-        list[i] = number(&s[at..], width);
-        at += width;
-        i += 1;
-    }
+    let n = s[0] as usize;
+    let at = FIXED_BYTES + ACTOR_BYTES * n;
+    let to = FIXED + n;
+    fixed(s, list);
+    times(&s[FIXED_BYTES..], n, &mut list[FIXED..]);
+    channels(&s[at..], s[1] as usize, &mut list[to..]);
 }
 
 // How many numbers the n graphs of s have.

@@ -24,7 +24,7 @@ fn next_length() -> usize {
     if n < 4 {
         return 65536;
     }
-    sheet::check::number(&head, 4) as usize
+    sheet::check::four(&head, 0) as usize
 }
 
 // Fills the part from standard input and judges what came.

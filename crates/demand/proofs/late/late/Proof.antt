@@ -1,30 +1,28 @@
 -- `late::late` meets its contract.
 use borrow.Author.Needs.{needs}
-use native.Mathlib.Omega.{arith}
-use Rattle.demand.proofs.End.{shares, end-answers}
+use Rattle.demand.proofs.End.{end-answers}
 use Rattle.demand.proofs.late.late.Statement.{statement}
 use Rattle.demand.proofs.late.late.Tie as tie
 
 weigh-requires : tie.Need-weigh-requires
 weigh-requires c κs = search needs
 
-surplus-of-requires : tie.Need-surplus-of-requires
-surplus-of-requires c κs =
-    let w = c .before .before .before .before .before in
-    let e = w .before .before .before .before .before .before .before .before .before .before .before in
-    let a = e .args in
-    let s = e .pre .0 in
-    shares (a .heads .now) (a .times .now) (a .q .now) (a .s .now) (a .room) (w .weigh .ensures) (s .0) (s .2) (s .3) (s .4)
+search-end-requires : tie.Need-search-end-requires
+search-end-requires c κs = search needs
 
-end-of-requires : tie.Need-end-of-requires
-end-of-requires c κs = search needs
+first-window-requires : tie.Need-first-window-requires
+first-window-requires c κs = let s = c .before .before .before .before .before .before .before .before .before .before .before .before .pre in λ i l. s .0 .0 .bounded .work i l .deadline-low
 
-walk-requires : tie.Need-walk-requires
-walk-requires c κs =
-    let r = c .before .before .before .before in
-    let w = r .before .before .before .before .before .before .before in
-    let s = w .before .before .before .before .before .before .before .before .before .before .before .pre in
-    (s .0 .0, w .weigh .ensures, omega (arith, r .end-of .ensures .high, s .0 .2), s .1 .2, s .1 .3)
+blank-requires : tie.Need-blank-requires
+blank-requires c κs = search needs
+
+search-requires : tie.Need-search-requires
+search-requires c κs =
+    let b = c .before .before .before in
+    let f = b .before .before in
+    let r = f .before in
+    let s = r .before .before .before .before .before .before .before .before .before .before .before .before .pre .0 in
+    (s .0, r .search-end .ensures .high, f .first-window .ensures .0, f .first-window .ensures .1, b .blank .ensures)
 
 same-length : tie.Need-same-length
 same-length c = search needs
@@ -32,33 +30,21 @@ same-length c = search needs
 same-length-2 : tie.Need-same-length-2
 same-length-2 c = search needs
 
-same-length-3 : tie.Need-same-length-3
-same-length-3 c = search needs
-
-same-length-4 : tie.Need-same-length-4
-same-length-4 c = search needs
-
 returns : tie.Need-returns
 returns c =
-    let k = c .before .before .before .before in
-    let r = k .before .before .before .before .before in
-    let w = r .before .before .before .before .before .before .before in
-    let e = w .before .before .before .before .before .before .before .before .before .before .before in
-    let a = e .args in
-    let s = e .pre .0 in
-    end-answers (a .heads .now) (a .times .now) (a .q .now) (a .s .now) (a .room) (w .weigh .ensures) (s .1) (s .3) (s .4)
-    (r .before .surplus-of .ensures) (r .end-of .ensures) (k .walk .result) (k .walk .ensures)
+    let k = c .before .before in
+    let r = k .before .before .before .before .before .before .before in
+    end-answers (r .search-end .ensures) (k .search .result) (k .search .ensures)
 
 pub late-spec : {M : Type 1} → statement M
 late-spec =
     tie.close
     (tie.spec
     weigh-requires
-    surplus-of-requires
-    end-of-requires
-    walk-requires
+    search-end-requires
+    first-window-requires
+    blank-requires
+    search-requires
     same-length
     same-length-2
-    same-length-3
-    same-length-4
     returns)

@@ -4,7 +4,7 @@ use mathlib.Core.Path.{_≡_, _∙_, ap}
 use Prim.Native.Nat.{_-_, _≤_}
 use native.Mathlib.Omega.{arith}
 use Rattle.sdf.specs.Sum.{sumTo}
-use Rattle.demand.specs.Rises.{graph-surplus}
+use Rattle.demand.specs.Search.{graph-surplus}
 use Rattle.demand.proofs.End.{surplus-added}
 use Rattle.demand.proofs.late.surplus_of.Statement.{statement}
 use Rattle.demand.proofs.late.surplus_of.Tie as tie

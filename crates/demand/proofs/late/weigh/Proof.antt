@@ -5,19 +5,18 @@ use Prim.Native.Nat.{_-_, _≤_}
 use native.Mathlib.Omega.{arith}
 use lib.ListN.{length}
 use Rattle.demand.specs.Lent.{works-of}
-use Rattle.demand.proofs.Rises.{Weighing, weighing-start, weighing-turn, weighing-end}
+use Rattle.demand.proofs.Search.{Weighing, weighing-start, weighing-turn}
 use Rattle.demand.proofs.late.weigh.Statement.{statement}
 use Rattle.demand.proofs.late.weigh.Tie as tie
 
 abbrev Inv-loop : tie.InvT-loop
-Inv-loop heads times q s room weight₀ knee₀ n i₀ weight knee i =
-    Weighing (works-of heads times q s room) i weight knee × (i ≤ n) × (length weight ≡ length weight₀) × (length knee ≡ length knee₀)
+Inv-loop heads times q s room weight₀ n i₀ weight i = Weighing (works-of heads times q s room) i weight × (i ≤ n) × (length weight ≡ length weight₀)
 
 abbrev μ-loop : tie.MeasureT-loop
-μ-loop heads times q s room weight₀ knee₀ n i₀ weight knee i = n - i
+μ-loop heads times q s room weight₀ n i₀ weight i = n - i
 
 loop-holds : tie.Need-loop-holds Inv-loop μ-loop
-loop-holds c = (weighing-start, search needs, search needs, search needs)
+loop-holds c = (weighing-start, search needs, search needs)
 
 iteration-time-requires : tie.Need-iteration-time-requires Inv-loop μ-loop
 iteration-time-requires c κs = search needs
@@ -31,18 +30,6 @@ mul-weight c = search needs
 slice-write-weight : tie.Need-slice-write-weight Inv-loop μ-loop
 slice-write-weight c = search needs
 
-knee-of-requires : tie.Need-knee-of-requires Inv-loop μ-loop
-knee-of-requires c κs = search needs
-
-count-requires-2 : tie.Need-count-requires-2 Inv-loop μ-loop
-count-requires-2 c κs = search needs
-
-mul-knee : tie.Need-mul-knee Inv-loop μ-loop
-mul-knee c = search needs
-
-slice-write-knee : tie.Need-slice-write-knee Inv-loop μ-loop
-slice-write-knee c = search needs
-
 add-i : tie.Need-add-i Inv-loop μ-loop
 add-i c = search needs
 
@@ -51,8 +38,7 @@ loop-less c = search needs
 
 loop-again : tie.Need-loop-again Inv-loop μ-loop
 loop-again c = (
-  weighing-turn (c .count2 .result) (c .before .before .before .before .before .loop .inv .0) (omega arith) (omega arith) (c .before .before .count .ensures ∙ c .before .before .before .iteration-time .ensures) (rw (c .count2 .ensures) (c .before .knee-of .ensures)),
-  search needs,
+  weighing-turn (c .before .before .before .loop .inv .0) (omega arith) (c .count .ensures ∙ c .before .iteration-time .ensures),
   search needs,
   search needs,
 )
@@ -60,11 +46,8 @@ loop-again c = (
 same-length : tie.Need-same-length Inv-loop μ-loop
 same-length c = search needs
 
-same-length-2 : tie.Need-same-length-2 Inv-loop μ-loop
-same-length-2 c = search needs
-
 returns : tie.Need-returns Inv-loop μ-loop
-returns c = weighing-end (c .before .loop .inv .0) (c .loop-test .left) (omega arith) (omega arith)
+returns c = record { weights-there = omega arith; weight = λ j l. c .before .loop .inv .0 .each j (omega arith) }
 
 pub weigh-spec : {M : Type 1} → statement M
 weigh-spec =
@@ -77,13 +60,8 @@ weigh-spec =
     count-requires
     mul-weight
     slice-write-weight
-    knee-of-requires
-    count-requires-2
-    mul-knee
-    slice-write-knee
     add-i
     loop-less
     loop-again
     same-length
-    same-length-2
     returns)

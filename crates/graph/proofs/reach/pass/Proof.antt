@@ -1,38 +1,46 @@
--- `graph::reach::pass` meets its contract: after c turns it has passed over the first c channels.
+-- `graph::reach::pass` meets its contract: after c turns it has passed over c channels.
 use mathlib.Core.Logic.{⊎-elim, inl, inr}
-use Prim.Native.Nat.{_-_, _≤_}
+use Prim.Native.Nat.{_-_, _/_, _<_, _≤_}
 use native.Mathlib.Omega.{arith}
+use lib.ListN.{length}
 use borrow.Author.Needs.{needs}
 use Rattle.graph.specs.Flat.{graph-of}
-use Rattle.graph.specs.Reach.{sided}
+use Rattle.graph.specs.Reach.{sided, turn}
 use Rattle.graph.proofs.Ends.{Ends}
-use Rattle.graph.proofs.Marks.{sided-ends, Passing, passing-start, passing-idle, passing-mark, passing-end}
+use Rattle.graph.proofs.Marks.{sided-ends, turn-within, Passing, passing-start, passing-idle, passing-mark, passing-end}
 use Rattle.graph.proofs.reach.pass.Statement.{statement}
 use Rattle.graph.proofs.reach.pass.Tie as tie
 
 abbrev Inv-loop : tie.InvT-loop
 Inv-loop actors input output channels side marks₀ m more₀ c₀ marks more c =
-    (c ≤ m) × Passing (sided side (graph-of actors input output channels)) c more marks₀ marks
+    (c ≤ m) × Passing (sided side (graph-of actors input output channels)) (turn side m) c more marks₀ marks
 
 abbrev μ-loop : tie.MeasureT-loop
 μ-loop actors input output channels side marks₀ m more₀ c₀ marks more c = m - c
 
 loop-holds : tie.Need-loop-holds Inv-loop μ-loop
-loop-holds c = (search needs, passing-start _ _)
+loop-holds c = (search needs, passing-start _ _ _)
+
+turn-requires : tie.Need-turn-requires Inv-loop μ-loop
+turn-requires c κs = search needs
+
+turned : (c : tie.After-turn Inv-loop μ-loop) → c .turn .result < length (c .before .before .before .before .before .args .channels .now) / 5
+turned c = rw (c .turn .ensures) (turn-within (c .before .before .before .before .before .args .side) _ _ (c .before .loop-test .taken) .0)
 
 number-requires : tie.Need-number-requires Inv-loop μ-loop
-number-requires c κs = search needs
+number-requires c κs = (turned c, search needs)
 
 sub-number : tie.Need-sub-number Inv-loop μ-loop
 sub-number c = search needs
 
 number-requires-2 : tie.Need-number-requires-2 Inv-loop μ-loop
-number-requires-2 c κs = search needs
+number-requires-2 c κs = (turned (c .before), search needs)
 
-ends : (c : tie.After-number2 Inv-loop μ-loop) → let s = c .before .before .before .before .before .before .args in Ends (sided (s .side) (graph-of (s .actors) (s .input) (s .output) (s .channels .now))) (s .actors) (c .before .before .before .loop .c) (c .before .number .result) (c .number2 .result)
+ends : (c : tie.After-number2 Inv-loop μ-loop) → let s = c .before .before .before .before .before .before .before .args in Ends (sided (s .side) (graph-of (s .actors) (s .input) (s .output) (s .channels .now))) (s .actors) (turn (s .side) (length (s .channels .now) / 5) (c .before .before .before .before .loop .c)) (c .before .number .result) (c .number2 .result)
 ends c =
-    let s = c .before .before .before .before .before .before in
-    sided-ends _ _ _ (s .args .channels .now) (s .args .side) _ _ _ (s .pre .0 .sound) (c .before .before .loop-test .taken) (s .pre .2) (c .before .number .ensures) (c .number2 .ensures)
+    let t = c .before .before in
+    let s = t .before .before .before .before .before in
+    rw (← t .turn .ensures) (sided-ends _ _ _ (s .args .channels .now) (s .args .side) _ _ _ (s .pre .0 .sound) (turned t) (s .pre .2) (c .before .number .ensures) (c .number2 .ensures))
 
 mul-if1 : tie.Need-mul-if1 Inv-loop μ-loop
 mul-if1 c = omega (arith, ends c .near-below)
@@ -60,7 +68,7 @@ loop-less c = search needs
 
 loop-again : tie.Need-loop-again Inv-loop μ-loop
 loop-again c =
-    let k = c .before .before .before .before .before in
+    let k = c .before .before .before .before .before .before in
     let p = k .loop .inv .1 in
     let e = ends (c .before .before) in
     ⊎-elim
@@ -83,6 +91,7 @@ pass-spec =
     Inv-loop
     μ-loop
     loop-holds
+    turn-requires
     number-requires
     sub-number
     number-requires-2

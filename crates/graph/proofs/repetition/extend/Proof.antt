@@ -1,6 +1,6 @@
 -- `extend` gives the head the number that its tail asks, with the least factor for all others.
-use mathlib.Core.Path.{_≡_, refl, ap, _∙_}
-use mathlib.Core.Bool.{Bool, true, false}
+use mathlib.Core.Path.{_≡_, ap, _∙_}
+use mathlib.Core.Bool.{Bool, true, false, true≢false}
 use mathlib.Core.List.{List}
 use Prim.Native.Nat.{ℕ, _*_, _/_, _<_}
 use borrow.Author.Tests.{not-true, not-false}
@@ -9,13 +9,13 @@ use Rattle.sdf.specs.Graph.{Channel, Graph}
 use Rattle.graph.specs.Flat.{graph-of, vector}
 use Rattle.graph.specs.Read.{seen}
 use Rattle.graph.specs.Repetition.{Scale-answer, Follows}
-use Rattle.graph.proofs.Growth.{factor-within, Extending, past-scaled, past-head, extended, follows}
+use Rattle.graph.proofs.Growth.{factor-within, Extending, past-scaled, past-head, extended, follows, given-none}
 use borrow.Author.Needs.{needs}
 use Rattle.graph.proofs.repetition.extend.Statement.{statement}
 use Rattle.graph.proofs.repetition.extend.Tie as tie
 
 abbrev start : tie.After-read → tie.Start
-start c = c .before .before .before
+start c = c .before .before .before .before
 
 abbrev graph : tie.After-read → Graph
 graph c = graph-of (start c .args .actors) (start c .args .input) (start c .args .output) (start c .args .channels .now)
@@ -26,8 +26,8 @@ before c = start c .args .q .now
 abbrev channel : tie.After-read → Channel
 channel c = seen (c .read .result)
 
-still : (c : tie.After-read) → (0 < vector (before c) (channel c .tail) → 0 < vector (before c) (channel c .head)) → Follows (graph c) (before c) (start c .args .c)
-still c f = follows (graph c) (start c .args .c) (channel c) (c .read .ensures .is) (before c) f
+still : (c : tie.After-read) → (0 < vector (before c) (channel c .tail) → 0 < vector (before c) (channel c .head)) → Follows (graph c) (vector (before c)) (start c .args .c)
+still c f = follows (graph c) (start c .args .c) (channel c) (c .read .ensures .is) (vector (before c)) f
 
 abbrev reading : tie.After-factor → tie.After-read
 reading c = c .before .before .before .before .before .before .before
@@ -70,7 +70,7 @@ slice-read-if1 : tie.Need-slice-read-if1
 slice-read-if1 c = search needs
 
 returns : tie.Need-returns
-returns c = (refl, still (c .before .before) (λ p. omega arith))
+returns c = let a = c .before .before in (given-none (start a .pre .2), λ l z. still a (λ p. omega arith))
 
 mul-if2 : tie.Need-mul-if2
 mul-if2 c = search needs
@@ -79,7 +79,7 @@ slice-read-if2 : tie.Need-slice-read-if2
 slice-read-if2 c = search needs
 
 returns-2 : tie.Need-returns-2
-returns-2 c = (refl, still (c .before .before .before .before) (λ p. omega arith))
+returns-2 c = let a = c .before .before .before .before in (given-none (start a .pre .2), λ l z. still a (λ p. omega arith))
 
 mul-moved : tie.Need-mul-moved
 mul-moved c = search needs
@@ -134,11 +134,24 @@ mul-q c = search needs
 slice-write-q : tie.Need-slice-write-q
 slice-write-q c = search needs
 
+mul-marks : tie.Need-mul-marks
+mul-marks c = search needs
+
+slice-write-marks : tie.Need-slice-write-marks
+slice-write-marks c = search needs
+
 same-length-3 : tie.Need-same-length-3
 same-length-3 c = search needs
 
+same-length-4 : tie.Need-same-length-4
+same-length-4 c = search needs
+
 returns-5 : tie.Need-returns-5
-returns-5 c = extended (extending (factored (c .before .before .before .before .before .before .before .before))) (after (c .before .before .before .before .before .before .before .before)) (scaled (c .before .before .before .before .before)) (c .before .count .result) (number (c .before)) (search needs) (c .if4 .left)
+returns-5 c =
+    let s = c .before .before .before .before .before .before .before .before in
+    let a = start (reading (factored s)) in
+    let x = extended (extending (factored s)) (after s) (scaled (c .before .before .before .before .before)) (c .before .count .result) (number (c .before)) (search needs) (a .args .marks .now) (a .pre .4) (c .if4 .left) in
+    (record { grown = x .0; fewer = omega (arith, x .1); looked = x .2; still = λ e. absurd (true≢false e) }, x .3)
 
 pub extend-spec : {M : Type 1} → statement M
 extend-spec =
@@ -167,5 +180,8 @@ extend-spec =
     returns-4
     mul-q
     slice-write-q
+    mul-marks
+    slice-write-marks
     same-length-3
+    same-length-4
     returns-5)

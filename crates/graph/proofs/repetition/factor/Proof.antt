@@ -24,20 +24,20 @@ rem-step c = search needs
 loop-holds : tie.Need-loop-holds Inv-loop μ-loop
 loop-holds c = factoring-start _ _ (search needs)
 
-add-rest : tie.Need-add-rest Inv-loop μ-loop
-add-rest c = omega (arith, factoring-below (c .before .loop .inv))
+add-left : tie.Need-add-left Inv-loop μ-loop
+add-left c = omega (arith, factoring-below (c .before .loop .inv))
 
-rem-rest : tie.Need-rem-rest Inv-loop μ-loop
-rem-rest c = search needs
+left-requires : tie.Need-left-requires Inv-loop μ-loop
+left-requires c κs = omega (arith, factoring-below (c .before .loop .inv))
 
 add-k : tie.Need-add-k Inv-loop μ-loop
-add-k c = omega (arith, factoring-turn (c .before .loop .inv) (c .loop-test .taken) .0)
+add-k c = omega (arith, factoring-turn (c .before .before .loop .inv) (c .before .loop-test .taken) .0)
 
 loop-less : tie.Need-loop-less Inv-loop μ-loop
-loop-less c = omega (arith, factoring-turn (c .before .loop .inv) (c .loop-test .taken) .0)
+loop-less c = omega (arith, factoring-turn (c .before .before .loop .inv) (c .before .loop-test .taken) .0)
 
 loop-again : tie.Need-loop-again Inv-loop μ-loop
-loop-again c = factoring-turn (c .before .loop .inv) (c .loop-test .taken) .1
+loop-again c = rw (c .left .ensures) (factoring-turn (c .before .before .loop .inv) (c .before .loop-test .taken) .1)
 
 returns : tie.Need-returns Inv-loop μ-loop
 returns c = rw (← c .before .before .before .count .ensures, ← c .before .before .count2 .ensures) (factoring-end (c .before .loop .inv) (c .loop-test .left))
@@ -52,8 +52,8 @@ factor-spec =
     count-requires-2
     rem-step
     loop-holds
-    add-rest
-    rem-rest
+    add-left
+    left-requires
     add-k
     loop-less
     loop-again

@@ -16,6 +16,9 @@ Inv-loop actors k q₀ i₀ q i = (i ≤ actors) × (length q ≡ length q₀) �
 abbrev μ-loop : tie.MeasureT-loop
 μ-loop actors k q₀ i₀ q i = actors - i
 
+returns : tie.Need-returns Inv-loop μ-loop
+returns c = λ v l. (rw (c .if1 .taken) (omega arith), c .before .pre .2 v l)
+
 loop-holds : tie.Need-loop-holds Inv-loop μ-loop
 loop-holds c = (search needs, search needs, scaling-start _ _)
 
@@ -28,15 +31,15 @@ slice-read-n c = search needs
 mul-n-2 : tie.Need-mul-n-2 Inv-loop μ-loop
 mul-n-2 c =
     let s = c .before .before .loop in
-    record { fits = moved-fits (omega (arith, s .inv .2 .rest (s .i) (le-refl (s .i)), c .before .before .before .pre .2 (s .i) (c .before .loop-test .taken))) (search needs) }
+    record { fits = moved-fits (omega (arith, s .inv .2 .rest (s .i) (le-refl (s .i)), c .before .before .before .before .pre .2 (s .i) (c .before .loop-test .taken))) (search needs) }
 
 same-length : tie.Need-same-length Inv-loop μ-loop
 same-length c = search needs
 
-returns : tie.Need-returns Inv-loop μ-loop
-returns c =
+returns-2 : tie.Need-returns-2 Inv-loop μ-loop
+returns-2 c =
     let s = c .before .before .before .loop in
-    (s .i, c .before .before .loop-test .taken, subst (λ (n : ℕ). max-repetition < n * c .before .before .before .before .args .k) (s .inv .2 .rest (s .i) (le-refl (s .i))) (c .if1 .taken))
+    (s .i, c .before .before .loop-test .taken, subst (λ (n : ℕ). max-repetition < n * c .before .before .before .before .before .args .k) (s .inv .2 .rest (s .i) (le-refl (s .i))) (c .if2 .taken))
 
 mul-q : tie.Need-mul-q Inv-loop μ-loop
 mul-q c = search needs
@@ -51,13 +54,13 @@ loop-less : tie.Need-loop-less Inv-loop μ-loop
 loop-less c = search needs
 
 loop-again : tie.Need-loop-again Inv-loop μ-loop
-loop-again c = (search needs, search needs, scaling-turn (c .before .before .before .loop .inv .2) (search needs) (c .if1 .left))
+loop-again c = (search needs, search needs, scaling-turn (c .before .before .before .loop .inv .2) (search needs) (c .if2 .left))
 
 same-length-2 : tie.Need-same-length-2 Inv-loop μ-loop
 same-length-2 c = search needs
 
-returns-2 : tie.Need-returns-2 Inv-loop μ-loop
-returns-2 c = λ v l. c .before .loop .inv .2 .done v (omega arith)
+returns-3 : tie.Need-returns-3 Inv-loop μ-loop
+returns-3 c = λ v l. c .before .loop .inv .2 .done v (omega arith)
 
 pub scale-spec : {M : Type 1} → statement M
 scale-spec =
@@ -65,16 +68,17 @@ scale-spec =
     (tie.spec
     Inv-loop
     μ-loop
+    returns
     loop-holds
     mul-n
     slice-read-n
     mul-n-2
     same-length
-    returns
+    returns-2
     mul-q
     slice-write-q
     add-i
     loop-less
     loop-again
     same-length-2
-    returns-2)
+    returns-3)

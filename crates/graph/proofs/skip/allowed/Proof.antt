@@ -1,5 +1,4 @@
 -- `graph::skip::allowed` meets its contract.
-use native.Mathlib.Omega.{arith}
 use borrow.Author.Needs.{needs}
 use Rattle.sdf.specs.Skip.{allowed}
 use Rattle.graph.proofs.skip.allowed.Statement.{statement}
@@ -11,23 +10,8 @@ number-requires c κs = search needs
 of-requires : tie.Need-of-requires
 of-requires c κs = search needs
 
-number-requires-2 : tie.Need-number-requires-2
-number-requires-2 c κs = search needs
-
-of-requires-2 : tie.Need-of-requires-2
-of-requires-2 c κs = search needs
-
-number-requires-3 : tie.Need-number-requires-3
-number-requires-3 c κs = search needs
-
-of-requires-3 : tie.Need-of-requires-3
-of-requires-3 c κs = search needs
-
-tokens-requires : tie.Need-tokens-requires
-tokens-requires c κs = rw (c .before .before .of2 .ensures, c .before .before .before .number2 .ensures) (omega arith)
-
-plus-requires : tie.Need-plus-requires
-plus-requires c κs = rw (c .before .of3 .ensures, c .before .before .number3 .ensures, c .tokens .ensures, c .before .before .before .of2 .ensures, c .before .before .before .before .number2 .ensures) (omega arith)
+spare-requires : tie.Need-spare-requires
+spare-requires c κs = search needs
 
 firings-requires : tie.Need-firings-requires
 firings-requires c κs = search needs
@@ -38,15 +22,4 @@ returns c = cc
 
 pub allowed-spec : {M : Type 1} → statement M
 allowed-spec =
-    tie.close
-    (tie.spec
-    number-requires
-    of-requires
-    number-requires-2
-    of-requires-2
-    number-requires-3
-    of-requires-3
-    tokens-requires
-    plus-requires
-    firings-requires
-    returns)
+    tie.close (tie.spec number-requires of-requires spare-requires firings-requires returns)

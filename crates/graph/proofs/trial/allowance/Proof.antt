@@ -1,36 +1,50 @@
--- `allowance` returns the greatest number of firings that all channels let the actor make in a row. The invariant: the greatest that
--- those passed let it make.
-use mathlib.Core.Path.{_≡_, ap}
-use Prim.Native.Nat.{_≤_, _-_, _/_}
+-- `allowance` returns the greatest number of firings that all channels let the actor make in a row. The invariant: what those that
+-- the walk has passed let it make.
+use Prim.Native.Nat.{_/_, _-_}
 use native.Mathlib.Omega.{arith}
 use borrow.Author.Needs.{needs}
-use lib.ListN.{length}
-use Rattle.sdf.specs.Graph.{Channel}
+use lib.ListN.{length, getD}
 use Rattle.graph.specs.Flat.{channel-at, vector}
-use Rattle.graph.specs.Trial.{Greatest, Allows}
-use Rattle.graph.proofs.Firing.{allowance-start, allowance-turn}
+use Rattle.graph.proofs.Chains.{walked-next}
+use Rattle.graph.proofs.Firing.{Allowing, allowing-start, allowing-asks, allowing-turn, allowing-end, allowing-none}
 use Rattle.graph.proofs.trial.allowance.Statement.{statement}
 use Rattle.graph.proofs.trial.allowance.Tie as tie
 
 abbrev Inv-loop : tie.InvT-loop
-Inv-loop channels tokens v m k₀ c₀ k c = (c ≤ m) × Greatest (Allows (channel-at channels) c (vector tokens) v) (k₀ .n) (k .n)
+Inv-loop actors channels into tokens v k₀ at₀ k at = Allowing (channel-at channels) (length channels / 5) (vector tokens) v (k₀ .n) at (k .n)
 
 abbrev μ-loop : tie.MeasureT-loop
-μ-loop channels tokens v m k₀ c₀ k c = m - c
+μ-loop actors channels into tokens v k₀ at₀ k at = at
+
+abbrev entry : tie.At-loop Inv-loop μ-loop → tie.Start Inv-loop μ-loop
+entry l = l .before .before .before .before .before
 
 loop-holds : tie.Need-loop-holds Inv-loop μ-loop
-loop-holds c = (search needs, allowance-start)
-
-times-requires : tie.Need-times-requires Inv-loop μ-loop
-times-requires c κs = let at = c .before .before in omega (arith, at .before .before .before .before .before .pre .1 (at .before .before .loop .c) (omega arith), ap (λ (e : Channel). e .consume) (at .at .ensures))
-
-loop-again : tie.Need-loop-again Inv-loop μ-loop
-loop-again c = let at = c .before .before .before in (omega arith, allowance-turn (at .before .before .loop .inv .1) (rw (at .at .ensures, c .before .of .ensures) at (c .times .ensures)))
+loop-holds c = let s = c .before .before .before .before in allowing-start (s .pre .1 .first (s .args .v) (s .pre .0))
 
 returns : tie.Need-returns Inv-loop μ-loop
-returns c =
-    let e : length (c .before .before .before .before .args .channels .now) / 5 ≡ c .before .loop .c = omega arith in
-    rw e (c .before .loop .inv .1)
+returns c = allowing-none (c .before .before .before .loop .inv) (omega arith)
+
+times-requires : tie.Need-times-requires Inv-loop μ-loop
+times-requires c κs =
+    let a = c .before .before in
+    let l = a .before .before .before .before in
+    allowing-asks (l .loop .inv) (omega arith) (a .at .ensures) (entry l .pre .3)
+
+loop-less : tie.Need-loop-less Inv-loop μ-loop
+loop-less c =
+    let l = c .before .before .before .before .before .before .before .before in
+    omega (arith, walked-next {c = l .loop .at - 1} (entry l .pre .1) (l .loop .inv .walked) (omega arith) .within)
+
+loop-again : tie.Need-loop-again Inv-loop μ-loop
+loop-again c =
+    let t = c .before in
+    let a = t .before .before .before in
+    let l = a .before .before .before .before in
+    allowing-turn (l .loop .inv) (omega arith) (walked-next (entry l .pre .1) (l .loop .inv .walked) (omega arith)) (rw (a .at .ensures, t .before .of .ensures) at (t .times .ensures))
+
+returns-2 : tie.Need-returns-2 Inv-loop μ-loop
+returns-2 c = allowing-end (c .before .loop .inv) (omega arith)
 
 pub allowance-spec : {M : Type 1} → statement M
 allowance-spec =
@@ -38,7 +52,12 @@ allowance-spec =
     (tie.spec
     Inv-loop
     μ-loop
+    (λ c. search needs)
+    (λ c. search needs)
     loop-holds
+    (λ c κs. search needs)
+    returns
+    (λ c. search needs)
     (λ c κs. search needs)
     (λ c. search needs)
     (λ c. search needs)
@@ -46,5 +65,7 @@ allowance-spec =
     times-requires
     (λ c. search needs)
     (λ c. search needs)
+    (λ c. search needs)
+    loop-less
     loop-again
-    returns)
+    returns-2)

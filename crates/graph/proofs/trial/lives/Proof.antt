@@ -5,29 +5,37 @@ use mathlib.Core.Path.{sym, _∙_}
 use Prim.Native.Nat.{_≤_, _-_}
 use native.Mathlib.Omega.{arith}
 use borrow.Author.Needs.{needs}
+use lib.ListN.{length-set}
 use borrow.Author.Tests.{not-true, not-false}
 use Rattle.graph.specs.Flat.{graph-of, vector}
 use Rattle.graph.specs.Trial.{Run}
-use Rattle.graph.proofs.Run.{Pass, Sized, sized-start, run-start, run-visitable, pass-start, pass-fired, pass-still, Over, over-done, over-stuck, run-decides, sized-again}
+use Rattle.graph.proofs.Run.{Pass, Sized, sized-start, run-start, pass-start, pass-fired, pass-still, Over, over-done, over-stuck, run-decides, sized-again}
 use Rattle.graph.proofs.trial.lives.Statement.{statement}
 use Rattle.graph.proofs.trial.lives.Tie as tie
 
 abbrev Inv-loop : tie.InvT-loop
-Inv-loop actors input output channels q tokens₀ left₀ ready₀ rest₀ fired₀ v₀ tokens left ready rest fired v =
+Inv-loop actors input output channels q tokens₀ left₀ ready₀ into out hints₀ rest₀ fired₀ v₀ tokens left ready hints rest fired v =
     (v ≤ actors) × Pass (graph-of actors input output channels) (vector q) tokens left ready (rest₀ .n) (rest .n) fired v
-    × Sized tokens₀ left₀ ready₀ tokens left ready
+    × Sized tokens₀ left₀ ready₀ hints₀ tokens left ready hints
 
 abbrev μ-loop : tie.MeasureT-loop
-μ-loop actors input output channels q tokens₀ left₀ ready₀ rest₀ fired₀ v₀ tokens left ready rest fired v = actors - v
+μ-loop actors input output channels q tokens₀ left₀ ready₀ into out hints₀ rest₀ fired₀ v₀ tokens left ready hints rest fired v = actors - v
 
 abbrev Inv-run : tie.InvT-run
-Inv-run actors input output channels q tokens₀ left₀ ready₀ rest₀ tokens left ready rest = Run (graph-of actors input output channels) (vector q) tokens left ready (rest .n) × Sized tokens₀ left₀ ready₀ tokens left ready
+Inv-run actors input output channels q tokens₀ left₀ ready₀ into out hints₀ rest₀ tokens left ready hints rest = Run (graph-of actors input output channels) (vector q) tokens left ready (rest .n) × Sized tokens₀ left₀ ready₀ hints₀ tokens left ready hints
 
 abbrev μ-run : tie.MeasureT-run
-μ-run actors input output channels q tokens₀ left₀ ready₀ rest₀ tokens left ready rest = rest .n
+μ-run actors input output channels q tokens₀ left₀ ready₀ into out hints₀ rest₀ tokens left ready hints rest = rest .n
+
+-- Places before the run: the initial tokens, the start.
+abbrev started : tie.At-run Inv-loop μ-loop Inv-run μ-run → tie.After-start Inv-loop μ-loop Inv-run μ-run
+started c = c .before .before .before .before .before
+
+abbrev entry : tie.At-run Inv-loop μ-loop Inv-run μ-run → tie.Start Inv-loop μ-loop Inv-run μ-run
+entry c = started c .before .before .before .before .before .before .before .before .before .before .before .before .before .before .before
 
 start-requires : tie.Need-start-requires Inv-loop μ-loop Inv-run μ-run
-start-requires c κs = (search needs, c .before .before .before .before .before .before .before .before .before .before .before .pre .0 .1 .bound, search needs, search needs, search needs)
+start-requires c κs = (search needs, c .before .before .before .before .before .before .before .before .before .before .before .before .before .before .pre .0 .1 .bound, search needs, search needs, search needs)
 
 run-holds : tie.Need-run-holds Inv-loop μ-loop Inv-run μ-run
 run-holds c = (run-start (c .before .before .before .before .before .before .before .before .before .initial .ensures) (c .before .before .before .before .start .ensures), sized-start)
@@ -35,47 +43,59 @@ run-holds c = (run-start (c .before .before .before .before .before .before .bef
 loop-holds : tie.Need-loop-holds Inv-loop μ-loop Inv-run μ-run
 loop-holds c = (search needs, pass-start (c .run .inv .0), sized-start)
 
-abbrev entry : tie.At-run Inv-loop μ-loop Inv-run μ-run → tie.Start Inv-loop μ-loop Inv-run μ-run
-entry c = c .before .before .before .before .before .before .before .before .before .before .before .before .before .before .before .before .before
-
 -- The lent lists keep their lengths up to the head of a pass.
-sized : (c : tie.At-run Inv-loop μ-loop Inv-run μ-run) → let a = entry c .args in Sized (a .tokens .now) (a .left .now) (a .ready .now) (c .run .tokens) (c .run .left) (c .run .ready)
+sized : (c : tie.At-run Inv-loop μ-loop Inv-run μ-run) → let a = entry c .args in Sized (a .tokens .now) (a .left .now) (a .ready .now) (a .hints .now) (c .run .tokens) (c .run .left) (c .run .ready) (c .run .hints)
 sized c =
-    let start = c .before .before .before .before .before .start .kept .1 .1 in
-    sized-again record { tokens-length = c .before .before .before .before .before .before .before .before .before .before .initial .kept .1 .0; left-length = start .0; ready-length = start .1 .0 } (c .run .inv .1)
+    let start = started c .start .kept .1 .1 in
+    sized-again record {
+      tokens-length = started c .before .before .before .before .before .initial .kept .1 .0;
+      left-length = start .0;
+      ready-length = start .1 .0;
+      hints-length = length-set (entry c .args .hints .now) 0 0;
+    } (c .run .inv .1)
 
-visit-requires : tie.Need-visit-requires Inv-loop μ-loop Inv-run μ-run
-visit-requires c κs =
-    let l = c .before .before .before .before in
+follow-requires : tie.Need-follow-requires Inv-loop μ-loop Inv-run μ-run
+follow-requires c κs =
+    let i = c .before .before .before .before in
+    let l = i .before in
     let s = entry (l .before) in
     let lengths = sized-again (sized (l .before)) (l .loop .inv .2) in (
-      s .pre .0 .0,
-      c .before .before .before .loop-test .taken,
-      run-visitable (s .pre .0 .0) (s .pre .0 .1) (l .loop .inv .1 .run)
-          (omega (arith, lengths .tokens-length, s .pre .1 .1))
-          (omega (arith, lengths .left-length, s .pre .1 .2))
-          (omega (arith, lengths .ready-length, s .pre .1 .3)),
+      (s .pre .1 .1 .0, s .pre .1 .1 .1),
+      (
+        s .pre .0 .0,
+        i .loop-test .taken,
+        record {
+          q = s .args .q .now;
+          repeats = s .pre .0 .1;
+          rest = _;
+          run = l .loop .inv .1 .run;
+          tokens-room = omega (arith, lengths .tokens-length, s .pre .1 .0 .1);
+          left-room = omega (arith, lengths .left-length, s .pre .1 .0 .2);
+          ready-room = omega (arith, lengths .ready-length, s .pre .1 .0 .3);
+        },
+        omega (arith, lengths .hints-length, s .pre .1 .1 .2),
+      ),
     )
 
 add-v : tie.Need-add-v Inv-loop μ-loop Inv-run μ-run
 add-v c =
-    let l = c .before .before .before .before .before .before .before .before .before .before .before .before .before .before .before in
+    let l = c .before .before .before .before .before .before .before .before .before .before .before .before .before .before .before .before .before .before in
     omega (arith, l .loop-test .taken, entry (l .before .before) .fits .actors)
 
 loop-again : tie.Need-loop-again Inv-loop μ-loop Inv-run μ-run
 loop-again c =
     let less = c .before .before .less in
     let count = c .before .before .before .before .count in
-    let visit = c .before .before .before .before .before .before .before .before .before .before .before .visit in
-    let turn = c .before .before .before .before .before .before .before .before .before .before .before .before .before .before .before in
+    let follow = c .before .before .before .before .before .before .before .before .before .before .before .before .before .follow in
+    let turn = c .before .before .before .before .before .before .before .before .before .before .before .before .before .before .before .before .before .before in
     let pass = turn .before .loop .inv in
-    let kept = visit .kept .1 .1 .1 .1 .1 in (
+    let kept = follow .kept .1 .1 .1 .1 .1 .1 .1 in (
       omega (arith, turn .loop-test .taken),
       ⊎-elim
-          (λ w. pass-fired (pass .1) (visit .ensures) (less .ensures) (turn .loop-test .taken) (λ e. w .0 .taken (count .ensures ∙ e)) (w .1))
-          (λ w. pass-still (pass .1) (visit .ensures) (less .ensures) (sym (count .ensures) ∙ w .0 .left) (w .1))
+          (λ w. pass-fired (pass .1) (follow .ensures) (less .ensures) (λ e. w .0 .taken (count .ensures ∙ e)) (w .1))
+          (λ w. pass-still (pass .1) (follow .ensures) (less .ensures) (sym (count .ensures) ∙ w .0 .left) (w .1))
           (c .before .before .before .if1 .came),
-      sized-again (pass .2) record { tokens-length = kept .0; left-length = kept .1 .0; ready-length = kept .1 .1 .0 },
+      sized-again (pass .2) record { tokens-length = kept .0; left-length = kept .1 .0; ready-length = kept .1 .1 .0; hints-length = kept .1 .1 .1 .0 },
     )
 
 run-less : tie.Need-run-less Inv-loop μ-loop Inv-run μ-run
@@ -92,16 +112,16 @@ over : (c : tie.Left-loop Inv-loop μ-loop Inv-run μ-run)
     let r = c .before .before .run in
     let l = c .loop-test in
     Over (graph-of (a .actors) (a .input) (a .output) (a .channels .now)) (vector (a .q .now)) (l .tokens) (l .left) (l .ready) (l .rest .n)
-    × Sized (r .tokens) (r .left) (r .ready) (l .tokens) (l .left) (l .ready)
+    × Sized (r .tokens) (r .left) (r .ready) (r .hints) (l .tokens) (l .left) (l .ready) (l .hints)
 over c =
     let pass = c .before .loop .inv in
     ⊎-elim
-    (λ w. let kept = w .4 .kept .1 .1 .1 .1 .1 in
-    rw (w .16, w .17, w .18, w .19) (
-      over-done (rw (w .13 .ensures) (w .4 .ensures .run _ _ (pass .1 .run))) (omega (arith, w .14 .ensures, w .15 .taken)),
-      sized-again (pass .2) record { tokens-length = kept .0; left-length = kept .1 .0; ready-length = kept .1 .1 .0 },
+    (λ w. let kept = w .5 .kept .1 .1 .1 .1 .1 .1 .1 in
+    rw (w .19, w .20, w .21, w .22, w .23) (
+      over-done (rw (w .16 .ensures) (w .5 .ensures .run _ _ (pass .1 .run))) (omega (arith, w .17 .ensures, w .18 .taken)),
+      sized-again (pass .2) record { tokens-length = kept .0; left-length = kept .1 .0; ready-length = kept .1 .1 .0; hints-length = kept .1 .1 .1 .0 },
     ))
-    (λ w. rw (w .2, w .3, w .4, w .5) (over-stuck (pass .1) (w .0 .left) (not-true _ (w .1 .taken)), pass .2))
+    (λ w. rw (w .2, w .3, w .4, w .5, w .6) (over-stuck (pass .1) (w .0 .left) (not-true _ (w .1 .taken)), pass .2))
     (c .loop-test .came)
 
 same-length : tie.Need-same-length Inv-loop μ-loop Inv-run μ-run
@@ -112,6 +132,9 @@ same-length-2 c = sized-again (sized (c .before .before .before)) (over (c .befo
 
 same-length-3 : tie.Need-same-length-3 Inv-loop μ-loop Inv-run μ-run
 same-length-3 c = sized-again (sized (c .before .before .before)) (over (c .before) .1) .ready-length
+
+same-length-4 : tie.Need-same-length-4 Inv-loop μ-loop Inv-run μ-run
+same-length-4 c = sized-again (sized (c .before .before .before)) (over (c .before) .1) .hints-length
 
 returns : tie.Need-returns Inv-loop μ-loop Inv-run μ-run
 returns c = rw (c .count3 .ensures) (run-decides (entry (c .before .before .before) .pre .0 .0 .sound) (over (c .before) .0))
@@ -124,11 +147,12 @@ lives-spec =
     μ-loop
     Inv-run
     μ-run
+    (λ c. search needs)
     (λ c κs. search needs)
     start-requires
     run-holds
     loop-holds
-    visit-requires
+    follow-requires
     (λ c κs. search needs)
     (λ c κs. search needs)
     (λ c κs. search needs)
@@ -141,4 +165,5 @@ lives-spec =
     same-length
     same-length-2
     same-length-3
+    same-length-4
     returns)

@@ -89,17 +89,11 @@ slice-aggregate-late c = search needs
 slice-aggregate-late-2 : tie.Need-slice-aggregate-late-2
 slice-aggregate-late-2 c = search needs
 
-slice-aggregate-late-3 : tie.Need-slice-aggregate-late-3
-slice-aggregate-late-3 c = search needs
-
-slice-aggregate-late-4 : tie.Need-slice-aggregate-late-4
-slice-aggregate-late-4 c = search needs
-
 late-requires : tie.Need-late-requires
 late-requires c κs =
-    let (js, st, framed) = c .before .before .before .before .before .before .before .before .before .before .before .before .before .before .before .pre in
-    let g = few (c .before .before .before .before .before .before .before .before .before .before .before .before .before .before .before) in
-    ((lent-held st, lent-frame st framed, framed .1, c .before .before .before .before .before .before .before .before .before .frame-load .ensures, within (c .before .before .before .before .before .before)), (g, g, g, g))
+    let (js, st, framed) = c .before .before .before .before .before .before .before .before .before .before .before .before .before .pre in
+    let g = few (c .before .before .before .before .before .before .before .before .before .before .before .before .before) in
+    ((lent-held st, lent-frame st framed, framed .1, c .before .before .before .before .before .before .before .frame-load .ensures, within (c .before .before .before .before)), (g, omega (arith, g)))
 
 enum-known-found : tie.Need-enum-known-found
 enum-known-found c = search needs
@@ -109,11 +103,11 @@ enum-told c = search needs
 
 returns-2 : tie.Need-returns-2
 returns-2 c = λ js st.
-    late-held st _ _ (c .before .before .before .before .before .before .before .before .before .before .before .before .before .before .before .before .before .frame-load .ensures) (within (c .before .before .before .before .before .before .before .before .before .before .before .before .before .before)) (rw (c .before .found .given .1) at (c .before .before .before .before .before .before .before .late .ensures))
+    late-held st _ _ (c .before .before .before .before .before .before .before .before .before .before .before .before .before .frame-load .ensures) (within (c .before .before .before .before .before .before .before .before .before .before)) (rw (c .before .found .given .1) at (c .before .before .before .before .before .late .ensures))
 
 returns-3 : tie.Need-returns-3
 returns-3 c = λ js st.
-    accepted-held st _ _ (c .before .before .before .before .before .before .before .before .before .before .before .before .before .before .before .before .frame-load .ensures) (within (c .before .before .before .before .before .before .before .before .before .before .before .before .before)) (rw (c .enum-told .given .1) at (c .before .before .before .before .before .before .late .ensures))
+    accepted-held st _ _ (c .before .before .before .before .before .before .before .before .before .before .before .before .frame-load .ensures) (within (c .before .before .before .before .before .before .before .before .before)) (rw (c .enum-told .given .1) at (c .before .before .before .before .late .ensures))
 
 pub verdict-of-spec : {M : Type 1} → statement M
 verdict-of-spec =
@@ -143,8 +137,6 @@ verdict-of-spec =
     part-late-end-2
     slice-aggregate-late
     slice-aggregate-late-2
-    slice-aggregate-late-3
-    slice-aggregate-late-4
     late-requires
     enum-known-found
     enum-told

@@ -19,107 +19,85 @@ use borrow.Author.Needs.{needs}
 use Rattle.shambrukit.proofs.prepare.numbers.Statement.{statement}
 use Rattle.shambrukit.proofs.prepare.numbers.Tie as tie
 
-graph-requires : tie.Need-graph-requires
-graph-requires c κs = search needs
-
 returns : tie.Need-returns
 returns c = says-range _ _ (sym (c .before .graph .ensures) ∙ not-true _ (c .if1 .taken))
 
 shared-slice-read-actors : tie.Need-shared-slice-read-actors
-shared-slice-read-actors c = omega (arith, there _ (c .before .before .before .before .before .before .pre .0))
+shared-slice-read-actors c = omega (arith, there _ (c .before .before .before .before .before .before .before .before .before .before .before .before .pre .0))
 
 cast-actors : tie.Need-cast-actors
 cast-actors c = omega (arith, c .shared-slice-known2 .given 0)
 
 add-first : tie.Need-add-first
-add-first c = omega (arith, there _ (c .before .before .before .before .before .before .pre .0))
+add-first c = omega (arith, there _ (c .before .before .before .before .before .before .before .before .before .before .before .before .pre .0))
 
 shared-slice-read-last : tie.Need-shared-slice-read-last
-shared-slice-read-last c = omega (arith, there _ (c .before .before .before .before .before .before .before .pre .0))
+shared-slice-read-last c = omega (arith, there _ (c .before .before .before .before .before .before .before .before .before .before .before .before .before .pre .0))
 
 cast-last : tie.Need-cast-last
 cast-last c = omega (arith, c .shared-slice-known3 .given 1)
 
 mul-last : tie.Need-mul-last
-mul-last c = omega (arith, there _ (c .before .before .before .before .before .before .before .pre .0))
+mul-last c = omega (arith, there _ (c .before .before .before .before .before .before .before .before .before .before .before .before .before .pre .0))
 
 add-last : tie.Need-add-last
-add-last c = omega (arith, there _ (c .before .before .before .before .before .before .before .pre .0))
+add-last c = omega (arith, there _ (c .before .before .before .before .before .before .before .before .before .before .before .before .before .pre .0))
 
 shared-slice-read-numbers : tie.Need-shared-slice-read-numbers
-shared-slice-read-numbers c = omega (arith, there _ (c .before .before .before .before .before .before .before .before .pre .0))
+shared-slice-read-numbers c = omega (arith, there _ (c .before .before .before .before .before .before .before .before .before .before .before .before .before .before .pre .0))
 
 cast-numbers : tie.Need-cast-numbers
 cast-numbers c = omega (arith, c .shared-slice-known4 .given 2)
 
 shared-slice-read-numbers-2 : tie.Need-shared-slice-read-numbers-2
-shared-slice-read-numbers-2 c = omega (arith, there _ (c .before .before .before .before .before .before .before .before .before .pre .0))
+shared-slice-read-numbers-2 c = omega (arith, there _ (c .before .before .before .before .before .before .before .before .before .before .before .before .before .before .before .pre .0))
 
 cast-numbers-2 : tie.Need-cast-numbers-2
 cast-numbers-2 c = omega (arith, c .shared-slice-known5 .given 3)
 
 mul-numbers : tie.Need-mul-numbers
-mul-numbers c = omega (arith, there _ (c .before .before .before .before .before .before .before .before .before .pre .0))
-
-sub-numbers : tie.Need-sub-numbers
-sub-numbers c = search needs
-
-part-numbers-start : tie.Need-part-numbers-start
-part-numbers-start c = search needs
+mul-numbers c = omega (arith, there _ (c .before .before .before .before .before .before .before .before .before .before .before .before .before .before .before .pre .0))
 
 part-numbers-end : tie.Need-part-numbers-end
-part-numbers-end c = omega (arith, there _ (c .before .before .before .before .before .before .before .before .before .pre .0))
-
-slice-aggregate-numbers : tie.Need-slice-aggregate-numbers
-slice-aggregate-numbers c = search needs
-
-slice-aggregate-numbers-2 : tie.Need-slice-aggregate-numbers-2
-slice-aggregate-numbers-2 c = search needs
-
-slice-aggregate-numbers-3 : tie.Need-slice-aggregate-numbers-3
-slice-aggregate-numbers-3 c = search needs
+part-numbers-end c = omega (arith, there _ (c .before .before .before .before .before .before .before .before .before .before .before .before .before .before .before .pre .0))
 
 -- Past the first test the graph is in range.
-ranged : (c : tie.Else1) → let l = c .before .before .before .before .before .args .l .now in in-range (layout-of l) l ≡ true
+ranged : (c : tie.Else1) → let l = c .before .before .before .before .before .before .before .before .before .before .before .args .l .now in in-range (layout-of l) l ≡ true
 ranged c = sym (c .before .graph .ensures) ∙ not-false _ (c .if1 .left)
 
 numbers-requires : tie.Need-numbers-requires
 numbers-requires c κs =
-    let i = c .before .before .before .before .before .before .before .before .before .before in
-    let a = i .before .before .before .before .before in
+    let i = c .before .before .before .before .before .before .before .before .before .before .before .before .before in
+    let a = i .before .before .before .before .before .before .before .before .before .before .before in
     let l = a .args .l .now in
-    let few = drawn-few l (a .pre .0 .0) (a .pre .0 .1) in (
+    let few = drawn-few l (a .pre .0 .0) (a .pre .0 .1) in
+    let (q-room, s-room) = a .pre .1 .0 in
+    let (tokens-room, left-room, ready-room, into-room, out-room, hints-room) = a .pre .1 .1 in (
       rw channels-part (drawn-sound l (a .pre .0 .0) (a .pre .0 .1) (ranged i)),
-      (omega (arith, a .pre .1, few), omega (arith, a .pre .1, few), rw channels-part (omega (arith, few)), omega (arith, few), omega (arith, few)),
+      (
+        (omega (arith, q-room, few), omega (arith, s-room, few), rw channels-part (omega (arith, tokens-room, few)), omega (arith, left-room, few), omega (arith, ready-room, few)),
+        (rw channels-part (omega (arith, into-room, few)), rw channels-part (omega (arith, out-room, few)), hints-room),
+      ),
     )
-
-refusal-requires : tie.Need-refusal-requires
-refusal-requires c κs = search needs
-
-same-length : tie.Need-same-length
-same-length c = search needs
-
-same-length-2 : tie.Need-same-length-2
-same-length-2 c = search needs
 
 returns-2 : tie.Need-returns-2
 returns-2 c =
-    let engine = c .before .before .before .before .before .before .before .before .numbers in
-    let i = c .before .before .before .before .before .before .before .before .before .before .before .before .before .before .before .before .before .before .before in
-    let a = i .before .before .before .before .before in
+    let engine = c .before .before .before .before .before .before .before .before .before .before .before .before .before .before .before .before .before .numbers in
+    let i = c .before .before .before .before .before .before .before .before .before .before .before .before .before .before .before .before .before .before .before .before .before .before .before .before .before .before .before .before .before .before .before in
+    let a = i .before .before .before .before .before .before .before .before .before .before .before in
     let l = a .args .l .now in
     let g : List ℕ → Graph = λ x. graph-of (getD l 0 0) (getD l 2 0) (getD l 3 0) x in
     let q = engine .last .1 .1 .1 .1 .0 in
     let s = engine .last .1 .1 .1 .1 .1 .0 in
     subst (λ r. Says (a .args .k) l r q s) (sym (c .refusal .ensures))
-    (says (a .args .k) l q s (a .pre .0 .0) (a .pre .0 .1) (omega (arith, a .pre .1, engine .kept)) (omega (arith, a .pre .1, engine .kept)) (ranged i) (engine .result)
+    (says (a .args .k) l q s (a .pre .0 .0) (a .pre .0 .1) (omega (arith, a .pre .1 .0, engine .kept)) (omega (arith, a .pre .1 .0, engine .kept)) (ranged i) (engine .result)
     (subst (λ x. Judged (g x) (engine .result) q s) (channels-part l) (engine .ensures)))
 
 pub numbers-spec : {M : Type 1} → statement M
 numbers-spec =
     tie.close
     (tie.spec
-    graph-requires
+    (λ c κs. search needs)
     returns
     shared-slice-read-actors
     cast-actors
@@ -133,14 +111,17 @@ numbers-spec =
     shared-slice-read-numbers-2
     cast-numbers-2
     mul-numbers
-    sub-numbers
-    part-numbers-start
+    (λ c. search needs)
+    (λ c. search needs)
     part-numbers-end
-    slice-aggregate-numbers
-    slice-aggregate-numbers-2
-    slice-aggregate-numbers-3
     numbers-requires
-    refusal-requires
-    same-length
-    same-length-2
+    (λ c κs. search needs)
+    (λ c. search needs)
+    (λ c. search needs)
+    (λ c. search needs)
+    (λ c. search needs)
+    (λ c. search needs)
+    (λ c. search needs)
+    (λ c. search needs)
+    (λ c. search needs)
     returns-2)

@@ -35,14 +35,14 @@ module _ (s : List ℕ) (h : 4 ≤ length s) where
 returns : tie.Need-returns
 returns c = sym (short _ (c .if1 .taken))
 
-number-requires : tie.Need-number-requires
-number-requires c κs = search needs
+two-requires : tie.Need-two-requires
+two-requires c κs = search needs
 
 cast-if2 : tie.Need-cast-if2
 cast-if2 c = search needs
 
 returns-2 : tie.Need-returns-2
-returns-2 c = sym (wrong-length _ (c .before .before .if1 .left) (λ e. c .if2 .taken (c .before .number .ensures ∙ e)))
+returns-2 c = sym (wrong-length _ (c .before .before .if1 .left) (λ e. c .if2 .taken (c .before .two .ensures .0 ∙ e)))
 
 shared-slice-read-if3 : tie.Need-shared-slice-read-if3
 shared-slice-read-if3 c = search needs
@@ -53,14 +53,14 @@ past :
     check-sheet s ≡ check-graphs in-bytes (getD s 3 0) (drop 4 s)
 past c =
     graphs _ (c .before .before .before .before .if1 .left)
-    (sym (c .before .before .before .number .ensures) ∙ c .before .before .if2 .left)
+    (sym (c .before .before .before .two .ensures .0) ∙ c .before .before .if2 .left)
     (c .if3 .left)
 
 returns-3 : tie.Need-returns-3
 returns-3 c =
     sym
     (other-version _ (c .before .before .before .before .if1 .left)
-    (sym (c .before .before .before .number .ensures) ∙ c .before .before .if2 .left)
+    (sym (c .before .before .before .two .ensures .0) ∙ c .before .before .if2 .left)
     (c .if3 .taken))
 
 shared-slice-read-n : tie.Need-shared-slice-read-n
@@ -99,7 +99,7 @@ sheet-spec =
     tie.close
     (tie.spec
     returns
-    number-requires
+    two-requires
     cast-if2
     returns-2
     shared-slice-read-if3

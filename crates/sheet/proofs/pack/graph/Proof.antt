@@ -1,97 +1,138 @@
--- `pack::graph` meets its contract: a graph's bytes, written field by field.
-use native.Mathlib.Omega.{arith}
+-- `pack::graph`: the fixed part, the worst-case times, the channels.
 use borrow.Author.Needs.{needs}
-use Prim.Native.Nat.{_+_, _-_, _≤_}
-use lib.ListN.{length, length-take, length-drop}
+use lib.ListN.{length, getD, length-take, length-drop}
+use native.Mathlib.Omega.{arith}
+use Prim.Native.Nat.{_+_, _*_, _≤_}
+use Rattle.sheet.proofs.Ranges.{stretch-bytes, stretch-numbers}
+use Rattle.sheet.specs.Check.{stretch}
 use Rattle.sheet.proofs.Walk.{sized-gives}
-use Rattle.sheet.proofs.Ranges.{stretch-numbers, Field-at, field-at}
-use Rattle.sheet.proofs.Packing.{Writing, writing-start, writing-length, writing-room, writing-turn, writing-end}
+use Rattle.units.specs.Bounds.{max-actors, max-channels}
+use Rattle.sheet.proofs.Parts.{packs, sizes-bytes, sizes-numbers, graph-fixed, graph-actors, graph-channels}
 use Rattle.sheet.proofs.pack.graph.Statement.{statement}
 use Rattle.sheet.proofs.pack.graph.Tie as tie
 
-abbrev Inv-loop : tie.InvT-loop
-Inv-loop l out₀ actors fields i₀ at₀ out i at = Writing l out₀ out i at
+-- What the counts at the start of l say of the lengths.
+facts :
+    (c : tie.Start) →
+    let l = c .args .l .now in
+    (getD l 0 0 ≤ max-actors) × (getD l 1 0 ≤ max-channels) × (6 + getD l 0 0 + 5 * getD l 1 0 ≤ length l)
+    × (12 + 4 * getD l 0 0 + 8 * getD l 1 0 ≤ length (c .args .out .now))
+facts c =
+    let l = c .args .l .now in
+    let z = sized-gives l (c .pre .0) in
+    (z .actors, z .channels, omega (arith, stretch-numbers l), omega (arith, stretch-bytes l))
 
-abbrev μ-loop : tie.MeasureT-loop
-μ-loop l out₀ actors fields i₀ at₀ out i at = fields - i
+shared-slice-read-n : tie.Need-shared-slice-read-n
+shared-slice-read-n c = omega (arith, facts (c .before .before .before))
 
-shared-slice-read-actors : tie.Need-shared-slice-read-actors Inv-loop μ-loop
-shared-slice-read-actors c = omega (arith, stretch-numbers (c .before .before .before .args .l .now))
+cast-n : tie.Need-cast-n
+cast-n c = omega (arith, facts (c .before .before .before))
 
-cast-actors : tie.Need-cast-actors Inv-loop μ-loop
-cast-actors c = omega (arith, c .shared-slice-known2 .given 0)
+add-at : tie.Need-add-at
+add-at c = omega (arith, facts (c .before .before .before))
 
-stretch-requires : tie.Need-stretch-requires Inv-loop μ-loop
-stretch-requires c κs = search needs
+mul-to : tie.Need-mul-to
+mul-to c = omega (arith, facts (c .before .before .before))
 
-loop-holds : tie.Need-loop-holds Inv-loop μ-loop
-loop-holds c = writing-start _ _ (c .before .before .before .before .pre .2)
+add-to : tie.Need-add-to
+add-to c = omega (arith, facts (c .before .before .before))
 
-field-requires : tie.Need-field-requires Inv-loop μ-loop
-field-requires c κs = let z = sized-gives _ (c .before .before .before .before .before .before .pre .0) in (z .some, z .actors)
+fixed-requires : tie.Need-fixed-requires
+fixed-requires c κs = (omega (arith, facts (c .before .before .before .before)), omega (arith, facts (c .before .before .before .before)))
 
-here : (c : tie.After-field Inv-loop μ-loop) → Field-at (c .before .before .before .before .before .before .before .args .l .now) (c .before .before .loop .i) (c .field .result)
-here c = field-at _ _ _ (c .field .ensures) (omega arith)
+sub-times : tie.Need-sub-times
+sub-times c = omega (arith, facts (c .before .before .before .before .before .before .before))
 
-room : (c : tie.After-field Inv-loop μ-loop) → c .before .before .loop .at + c .field .result .width ≤ length (c .before .before .loop .out)
-room c = writing-room (c .before .before .loop .inv) (here c)
+part-times-start : tie.Need-part-times-start
+part-times-start c = omega (arith, facts (c .before .before .before .before .before .before .before))
 
-mul-number : tie.Need-mul-number Inv-loop μ-loop
-mul-number c = search needs
+part-times-end : tie.Need-part-times-end
+part-times-end c = search needs
 
-shared-slice-read-number : tie.Need-shared-slice-read-number Inv-loop μ-loop
-shared-slice-read-number c = search needs
+sub-times-2 : tie.Need-sub-times-2
+sub-times-2 c = omega (arith, facts (c .before .before .before .before .before .before .before .before))
 
-sub-number : tie.Need-sub-number Inv-loop μ-loop
-sub-number c = writing-length (c .before .before .before .loop .inv) .1
+part-times-start-2 : tie.Need-part-times-start-2
+part-times-start-2 c = omega (arith, facts (c .before .before .before .before .before .before .before .before))
 
-part-number-start : tie.Need-part-number-start Inv-loop μ-loop
-part-number-start c = writing-length (c .before .before .before .loop .inv) .1
+part-times-end-2 : tie.Need-part-times-end-2
+part-times-end-2 c = search needs
 
-part-number-end : tie.Need-part-number-end Inv-loop μ-loop
-part-number-end c = search needs
+times-requires : tie.Need-times-requires
+times-requires c κs = (simp (length-take, length-drop) (omega (arith, facts (c .before .before .before .before .before .before .before .before .before))), simp (length-take, length-drop) (omega (arith, facts (c .before .before .before .before .before .before .before .before .before))))
 
-number-requires : tie.Need-number-requires Inv-loop μ-loop
-number-requires c κs = simp (length-take, length-drop) (omega (arith, room (c .before .before)))
+mul-channels : tie.Need-mul-channels
+mul-channels c = omega (arith, facts (c .before .before .before .before .before .before .before .before .before .before .before .before))
 
-add-at : tie.Need-add-at Inv-loop μ-loop
-add-at c = omega (arith, room (c .before .before .before .before .before), writing-length (c .before .before .before .before .before .before .before .loop .inv))
+sub-channels : tie.Need-sub-channels
+sub-channels c = omega (arith, facts (c .before .before .before .before .before .before .before .before .before .before .before .before))
 
-add-i : tie.Need-add-i Inv-loop μ-loop
-add-i c = search needs
+part-channels-start : tie.Need-part-channels-start
+part-channels-start c = omega (arith, facts (c .before .before .before .before .before .before .before .before .before .before .before .before))
 
-loop-less : tie.Need-loop-less Inv-loop μ-loop
-loop-less c = search needs
+part-channels-end : tie.Need-part-channels-end
+part-channels-end c = search needs
 
-loop-again : tie.Need-loop-again Inv-loop μ-loop
-loop-again c = writing-turn (c .before .before .before .before .before .before .before .loop .inv) (here (c .before .before .before .before .before)) (c .before .before .number .ensures)
+shared-slice-read-channels : tie.Need-shared-slice-read-channels
+shared-slice-read-channels c = omega (arith, facts (c .before .before .before .before .before .before .before .before .before .before .before .before .before .before))
 
-same-length : tie.Need-same-length Inv-loop μ-loop
-same-length c = writing-length (c .before .loop .inv) .0
+cast-channels : tie.Need-cast-channels
+cast-channels c = omega (arith, facts (c .before .before .before .before .before .before .before .before .before .before .before .before .before .before))
 
-returns : tie.Need-returns Inv-loop μ-loop
-returns c = writing-end (c .before .loop .inv) (omega arith)
+sub-channels-2 : tie.Need-sub-channels-2
+sub-channels-2 c = omega (arith, facts (c .before .before .before .before .before .before .before .before .before .before .before .before .before .before))
+
+part-channels-start-2 : tie.Need-part-channels-start-2
+part-channels-start-2 c = omega (arith, facts (c .before .before .before .before .before .before .before .before .before .before .before .before .before .before))
+
+part-channels-end-2 : tie.Need-part-channels-end-2
+part-channels-end-2 c = search needs
+
+channels-requires : tie.Need-channels-requires
+channels-requires c κs = (simp (length-take, length-drop) (omega (arith, facts (c .before .before .before .before .before .before .before .before .before .before .before .before .before .before .before))), simp (length-take, length-drop) (omega (arith, facts (c .before .before .before .before .before .before .before .before .before .before .before .before .before .before .before))))
+
+same-length : tie.Need-same-length
+same-length c = search needs
+
+returns : tie.Need-returns
+unfolding stretch
+returns c =
+    let b = c .before .before .before .before .before .before .before .before .before .before .before .before .before .before .before .before .before .before in
+    let l = b .args .l .now in
+    let n = getD l 0 0 in
+    let m = getD l 1 0 in
+    let z = sizes-numbers in
+    let y = sizes-bytes in
+    graph-channels packs z y n m l (6 + n) (8 * m) (omega arith) (omega arith)
+    (graph-actors packs z y n m l (4 * n) (omega arith) (graph-fixed packs z y n m l (c .before .before .before .before .before .before .before .before .before .before .before .before .before .fixed .ensures)) (c .before .before .before .before .before .before .before .before .times .ensures))
+    (c .before .before .channels .ensures)
 
 pub graph-spec : {M : Type 1} → statement M
 graph-spec =
     tie.close
     (tie.spec
-    Inv-loop
-    μ-loop
-    shared-slice-read-actors
-    cast-actors
-    stretch-requires
-    loop-holds
-    field-requires
-    mul-number
-    shared-slice-read-number
-    sub-number
-    part-number-start
-    part-number-end
-    number-requires
+    shared-slice-read-n
+    cast-n
     add-at
-    add-i
-    loop-less
-    loop-again
+    mul-to
+    add-to
+    fixed-requires
+    sub-times
+    part-times-start
+    part-times-end
+    sub-times-2
+    part-times-start-2
+    part-times-end-2
+    times-requires
+    mul-channels
+    sub-channels
+    part-channels-start
+    part-channels-end
+    shared-slice-read-channels
+    cast-channels
+    sub-channels-2
+    part-channels-start-2
+    part-channels-end-2
+    channels-requires
     same-length
     returns)

@@ -58,18 +58,18 @@ add-all c = omega (arith, pack-small (counted c))
 returns-2 : tie.Need-returns-2
 returns-2 c = (pack-room (counted (c .before)) _ (c .if1 .taken), refl)
 
-cast-number : tie.Need-cast-number
-cast-number c = omega (arith, pack-small (counted (c .before)))
+cast-two : tie.Need-cast-two
+cast-two c = omega (arith, pack-small (counted (c .before)))
 
-number-requires : tie.Need-number-requires
-number-requires c κs = search needs
+two-requires : tie.Need-two-requires
+two-requires c κs = search needs
 
 slice-write-out : tie.Need-slice-write-out
 slice-write-out c = search needs
 
 head : (c : tie.After-slice-known2) → let a = c .before .before .before .before .before .before .before .before .before .before .before .before .before .args in
-    Filling (a .out .now) (set (set (c .before .before .number .last .1 .1 .0) 2 1) 3 (getD (a .l .now) 0 0)) (packed (a .l .now)) (body (a .l .now)) 4
-head c = pack-head (counted (c .before .before .before .before .before)) _ _ (c .before .before .before .before .if1 .left) (c .before .before .number .ensures)
+    Filling (a .out .now) (set (set (c .before .before .two .last .1 .1 .0) 2 1) 3 (getD (a .l .now) 0 0)) (packed (a .l .now)) (body (a .l .now)) 4
+head c = pack-head (counted (c .before .before .before .before .before)) _ _ (c .before .before .before .before .if1 .left) (c .before .before .two .ensures)
 
 cast-out : tie.Need-cast-out
 cast-out c = omega (arith, graphs-of (c .before .before .before .before .before .before .before .before) .few)
@@ -120,8 +120,8 @@ list-spec =
     count-requires
     add-all
     returns-2
-    cast-number
-    number-requires
+    cast-two
+    two-requires
     slice-write-out
     cast-out
     slice-write-out-2

@@ -1,80 +1,102 @@
--- `range::graph` meets its contract: answer 6 for one graph. Before each turn the fields from i on decide.
-use native.Mathlib.Omega.{arith}
+-- `range::graph`: the fixed part, the worst-case times, the channels.
 use borrow.Author.Needs.{needs}
+use mathlib.Core.Path.{sym, _∙_}
+use lib.ListN.{length, getD, length-take, length-drop}
+use native.Mathlib.Omega.{arith}
+use Prim.Native.Nat.{_+_, _*_, _<_, _≤_}
+use borrow.Author.Tests.{not-true, not-false}
 use Rattle.sheet.proofs.Walk.{sized-gives}
-use Prim.Native.Nat.{_-_}
-use Rattle.sheet.proofs.Ranges.{stretch-numbers, Field-at, field-at, Ranging, ranging-start, ranging-low, ranging-high, ranging-turn, ranging-end}
-use Rattle.sheet.proofs.range.graph.Statement.{statement}
+use Rattle.units.specs.Bounds.{max-actors, max-channels}
+use Rattle.sheet.proofs.Ranges.{stretch-numbers, graph-fixed-no, graph-actors-no, graph-channels-are}
 use Rattle.sheet.proofs.range.graph.Tie as tie
+use Rattle.sheet.proofs.range.graph.Statement.{statement}
 
-abbrev Inv-loop : tie.InvT-loop
-Inv-loop l actors fields i₀ i = Ranging l i
+-- What the counts at the start of l say of its length.
+facts :
+    (c : tie.Start) →
+    let l = c .args .l .now in
+    (0 < getD l 0 0) × (getD l 0 0 ≤ max-actors) × (getD l 1 0 ≤ max-channels) × (6 + getD l 0 0 + 5 * getD l 1 0 ≤ length l)
+facts c =
+    let l = c .args .l .now in
+    let z = sized-gives l (c .pre .0) in
+    (z .some, z .actors, z .channels, omega (arith, stretch-numbers l))
 
-abbrev μ-loop : tie.MeasureT-loop
-μ-loop l actors fields i₀ i = fields - i
+fixed-requires : tie.Need-fixed-requires
+fixed-requires c κs = (c .before .pre .0, omega (arith, facts (c .before)))
 
-shared-slice-read-actors : tie.Need-shared-slice-read-actors Inv-loop μ-loop
-shared-slice-read-actors c = omega (arith, stretch-numbers (c .before .before .args .l .now))
+returns : tie.Need-returns
+returns c = graph-fixed-no (c .before .before .before .args .l .now) (sym (c .before .fixed .ensures) ∙ not-true _ (c .if1 .taken))
 
-cast-actors : tie.Need-cast-actors Inv-loop μ-loop
-cast-actors c = omega (arith, c .shared-slice-known2 .given 0)
+shared-slice-read-n : tie.Need-shared-slice-read-n
+shared-slice-read-n c = omega (arith, facts (c .before .before .before .before))
 
-stretch-requires : tie.Need-stretch-requires Inv-loop μ-loop
-stretch-requires c κs = search needs
+cast-n : tie.Need-cast-n
+cast-n c = omega (arith, facts (c .before .before .before .before))
 
-loop-holds : tie.Need-loop-holds Inv-loop μ-loop
-loop-holds c = ranging-start _
+sub-times : tie.Need-sub-times
+sub-times c = omega (arith, facts (c .before .before .before .before))
 
-field-requires : tie.Need-field-requires Inv-loop μ-loop
-field-requires c κs = let z = sized-gives _ (c .before .before .before .before .before .pre .0) in (z .some, z .actors)
+part-times-start : tie.Need-part-times-start
+part-times-start c = omega (arith, facts (c .before .before .before .before))
 
-mul-n : tie.Need-mul-n Inv-loop μ-loop
-mul-n c = search needs
+part-times-end : tie.Need-part-times-end
+part-times-end c = search needs
 
-shared-slice-read-n : tie.Need-shared-slice-read-n Inv-loop μ-loop
-shared-slice-read-n c = search needs
+times-requires : tie.Need-times-requires
+times-requires c κs = simp (length-take, length-drop) (omega (arith, facts (c .before .before .before .before .before)))
 
-cast-n : tie.Need-cast-n Inv-loop μ-loop
-cast-n c = omega (arith, c .shared-slice-known3 .given (c .before .before .before .loop .i))
+returns-2 : tie.Need-returns-2
+returns-2 c = graph-actors-no (c .before .before .before .before .before .before .before .args .l .now) (sym (c .before .before .before .before .before .fixed .ensures) ∙ not-false _ (c .before .before .before .before .if1 .left)) (sym (c .before .times .ensures) ∙ not-true _ (c .if2 .taken))
 
-here : (c : tie.After-field Inv-loop μ-loop) → Field-at (c .before .before .before .before .before .before .args .l .now) (c .before .before .loop .i) (c .field .result)
-here c = field-at _ _ _ (c .field .ensures) (omega arith)
+add-at : tie.Need-add-at
+add-at c = omega (arith, facts (c .before .before .before .before .before .before .before))
 
-returns : tie.Need-returns Inv-loop μ-loop
-returns c = ranging-low (c .before .before .before .before .before .loop .inv) (here (c .before .before .before)) (c .if1 .taken)
+mul-channels : tie.Need-mul-channels
+mul-channels c = omega (arith, facts (c .before .before .before .before .before .before .before))
 
-returns-2 : tie.Need-returns-2 Inv-loop μ-loop
-returns-2 c = ranging-high (c .before .before .before .before .before .before .before .loop .inv) (here (c .before .before .before .before .before)) (c .before .before .if1 .left) (c .if2 .taken)
+sub-channels : tie.Need-sub-channels
+sub-channels c = omega (arith, facts (c .before .before .before .before .before .before .before))
 
-add-i : tie.Need-add-i Inv-loop μ-loop
-add-i c = search needs
+part-channels-start : tie.Need-part-channels-start
+part-channels-start c = omega (arith, facts (c .before .before .before .before .before .before .before))
 
-loop-less : tie.Need-loop-less Inv-loop μ-loop
-loop-less c = search needs
+part-channels-end : tie.Need-part-channels-end
+part-channels-end c = search needs
 
-loop-again : tie.Need-loop-again Inv-loop μ-loop
-loop-again c = ranging-turn (c .before .before .before .before .before .before .before .loop .inv) (here (c .before .before .before .before .before)) (c .before .before .if1 .left) (c .if2 .left)
+shared-slice-read-channels : tie.Need-shared-slice-read-channels
+shared-slice-read-channels c = omega (arith, facts (c .before .before .before .before .before .before .before .before .before))
 
-returns-3 : tie.Need-returns-3 Inv-loop μ-loop
-returns-3 c = ranging-end (c .before .loop .inv) (omega arith)
+cast-channels : tie.Need-cast-channels
+cast-channels c = omega (arith, facts (c .before .before .before .before .before .before .before .before .before))
+
+channels-requires : tie.Need-channels-requires
+channels-requires c κs = (omega (arith, facts (c .before .before .before .before .before .before .before .before .before)), simp (length-take, length-drop) (omega (arith, facts (c .before .before .before .before .before .before .before .before .before))))
+
+returns-3 : tie.Need-returns-3
+returns-3 c =
+    c .channels .ensures
+    ∙ graph-channels-are (c .before .before .before .before .before .before .before .before .before .before .args .l .now) (sym (c .before .before .before .before .before .before .before .before .fixed .ensures) ∙ not-false _ (c .before .before .before .before .before .before .before .if1 .left))
+    (sym (c .before .before .before .before .times .ensures) ∙ not-false _ (c .before .before .before .if2 .left))
 
 pub graph-spec : {M : Type 1} → statement M
 graph-spec =
     tie.close
     (tie.spec
-    Inv-loop
-    μ-loop
-    shared-slice-read-actors
-    cast-actors
-    stretch-requires
-    loop-holds
-    field-requires
-    mul-n
+    fixed-requires
+    returns
     shared-slice-read-n
     cast-n
-    returns
+    sub-times
+    part-times-start
+    part-times-end
+    times-requires
     returns-2
-    add-i
-    loop-less
-    loop-again
+    add-at
+    mul-channels
+    sub-channels
+    part-channels-start
+    part-channels-end
+    shared-slice-read-channels
+    cast-channels
+    channels-requires
     returns-3)

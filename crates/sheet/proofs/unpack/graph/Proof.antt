@@ -1,147 +1,138 @@
--- 01: the fields of a graph are read one after the other, each into the next place of the list.
-use mathlib.Core.Path.{_≡_}
-use Prim.Native.Nat.{_+_, _-_, _≤_}
-use native.Mathlib.Omega.{arith}
+-- `unpack::graph`: the fixed part, the worst-case times, the channels.
+use lib.ListN.{length, getD, length-take, length-drop}
 use borrow.Author.Needs.{needs}
-use lib.ListN.{length, getD, set}
-use Rattle.sheet.specs.Layout.{none}
+use native.Mathlib.Omega.{arith}
+use Prim.Native.Nat.{_+_, _*_, _≤_}
 use Rattle.sheet.specs.Check.{stretch}
-use Rattle.sheet.specs.Forms.{layout-of}
-use Rattle.sheet.proofs.GraphLayout.{layout-bytes}
-use Rattle.sheet.proofs.Walk.{Sized, sized-gives}
-use Rattle.sheet.proofs.Unpacking.{Reading, reading-start, reading-field, reading-turn, reading-end}
-use Rattle.sheet.proofs.unpack.graph.Statement.{statement}
+use Rattle.sheet.proofs.Walk.{sized-gives}
+use Rattle.sheet.proofs.Ranges.{stretch-bytes, stretch-numbers}
+use Rattle.units.specs.Bounds.{max-actors, max-channels}
+use Rattle.sheet.proofs.Parts.{unpacks, sizes-bytes, sizes-numbers, graph-fixed, graph-actors, graph-channels}
 use Rattle.sheet.proofs.unpack.graph.Tie as tie
+use Rattle.sheet.proofs.unpack.graph.Statement.{statement}
 
-abbrev Inv-loop : tie.InvT-loop
-Inv-loop s list₀ actors fields i₀ at₀ list i at = Reading s list₀ list fields i at
+-- What the counts at the start of s say of the lengths.
+facts :
+    (c : tie.Start) →
+    let s = c .args .s .now in
+    (getD s 0 0 ≤ max-actors) × (getD s 1 0 ≤ max-channels) × (12 + 4 * getD s 0 0 + 8 * getD s 1 0 ≤ length s)
+    × (6 + getD s 0 0 + 5 * getD s 1 0 ≤ length (c .args .list .now))
+facts c =
+    let s = c .args .s .now in
+    let z = sized-gives s (c .pre .0) in
+    (z .actors, z .channels, omega (arith, stretch-bytes s), omega (arith, stretch-numbers s))
 
-abbrev μ-loop : tie.MeasureT-loop
-μ-loop s list₀ actors fields i₀ at₀ list i at = fields - i
+shared-slice-read-n : tie.Need-shared-slice-read-n
+shared-slice-read-n c = omega (arith, facts (c .before .before .before))
 
--- 01: the fixed part of a graph that is there is 12 bytes long.
-there : (c : tie.Start Inv-loop μ-loop) → 12 ≤ length (c .args .s .now)
+cast-n : tie.Need-cast-n
+cast-n c = omega (arith, facts (c .before .before .before))
+
+mul-at : tie.Need-mul-at
+mul-at c = omega (arith, facts (c .before .before .before))
+
+add-at : tie.Need-add-at
+add-at c = omega (arith, facts (c .before .before .before))
+
+add-to : tie.Need-add-to
+add-to c = omega (arith, facts (c .before .before .before))
+
+fixed-requires : tie.Need-fixed-requires
+fixed-requires c κs = (omega (arith, facts (c .before .before .before .before)), omega (arith, facts (c .before .before .before .before)))
+
+sub-times : tie.Need-sub-times
+sub-times c = omega (arith, facts (c .before .before .before .before .before .before .before))
+
+part-times-start : tie.Need-part-times-start
+part-times-start c = omega (arith, facts (c .before .before .before .before .before .before .before))
+
+part-times-end : tie.Need-part-times-end
+part-times-end c = search needs
+
+sub-times-2 : tie.Need-sub-times-2
+sub-times-2 c = omega (arith, facts (c .before .before .before .before .before .before .before .before))
+
+part-times-start-2 : tie.Need-part-times-start-2
+part-times-start-2 c = omega (arith, facts (c .before .before .before .before .before .before .before .before))
+
+part-times-end-2 : tie.Need-part-times-end-2
+part-times-end-2 c = search needs
+
+times-requires : tie.Need-times-requires
+times-requires c κs = (simp (length-take, length-drop) (omega (arith, facts (c .before .before .before .before .before .before .before .before .before))), simp (length-take, length-drop) (omega (arith, facts (c .before .before .before .before .before .before .before .before .before))))
+
+sub-channels : tie.Need-sub-channels
+sub-channels c = omega (arith, facts (c .before .before .before .before .before .before .before .before .before .before .before .before))
+
+part-channels-start : tie.Need-part-channels-start
+part-channels-start c = omega (arith, facts (c .before .before .before .before .before .before .before .before .before .before .before .before))
+
+part-channels-end : tie.Need-part-channels-end
+part-channels-end c = search needs
+
+shared-slice-read-channels : tie.Need-shared-slice-read-channels
+shared-slice-read-channels c = omega (arith, facts (c .before .before .before .before .before .before .before .before .before .before .before .before .before .before))
+
+cast-channels : tie.Need-cast-channels
+cast-channels c = omega (arith, facts (c .before .before .before .before .before .before .before .before .before .before .before .before .before .before))
+
+mul-channels : tie.Need-mul-channels
+mul-channels c = omega (arith, facts (c .before .before .before .before .before .before .before .before .before .before .before .before .before .before))
+
+sub-channels-2 : tie.Need-sub-channels-2
+sub-channels-2 c = omega (arith, facts (c .before .before .before .before .before .before .before .before .before .before .before .before .before .before))
+
+part-channels-start-2 : tie.Need-part-channels-start-2
+part-channels-start-2 c = omega (arith, facts (c .before .before .before .before .before .before .before .before .before .before .before .before .before .before))
+
+part-channels-end-2 : tie.Need-part-channels-end-2
+part-channels-end-2 c = search needs
+
+channels-requires : tie.Need-channels-requires
+channels-requires c κs = (simp (length-take, length-drop) (omega (arith, facts (c .before .before .before .before .before .before .before .before .before .before .before .before .before .before .before))), simp (length-take, length-drop) (omega (arith, facts (c .before .before .before .before .before .before .before .before .before .before .before .before .before .before .before))))
+
+same-length : tie.Need-same-length
+same-length c = search needs
+
+returns : tie.Need-returns
 unfolding stretch
-there c = omega (arith, c .pre .1, layout-bytes (getD (c .args .s .now) 0 0) (getD (c .args .s .now) 1 0))
-
--- Its counts are within bounds.
-counts : (c : tie.Start Inv-loop μ-loop) → Sized (c .args .s .now)
-counts c = sized-gives (c .args .s .now) (c .pre .0)
-
-shared-slice-read-actors : tie.Need-shared-slice-read-actors Inv-loop μ-loop
-shared-slice-read-actors c = omega (arith, there (c .before .before .before))
-
-cast-actors : tie.Need-cast-actors Inv-loop μ-loop
-cast-actors c = omega (arith, counts (c .before .before .before))
-
-shared-slice-read-numbers-of : tie.Need-shared-slice-read-numbers-of Inv-loop μ-loop
-shared-slice-read-numbers-of c = omega (arith, there (c .before .before .before .before))
-
-cast-numbers-of : tie.Need-cast-numbers-of Inv-loop μ-loop
-cast-numbers-of c = omega (arith, counts (c .before .before .before .before))
-
-shared-slice-read-numbers-of-2 : tie.Need-shared-slice-read-numbers-of-2 Inv-loop μ-loop
-shared-slice-read-numbers-of-2 c = omega (arith, there (c .before .before .before .before .before))
-
-cast-numbers-of-2 : tie.Need-cast-numbers-of-2 Inv-loop μ-loop
-cast-numbers-of-2 c = omega (arith, counts (c .before .before .before .before .before))
-
-numbers-of-requires : tie.Need-numbers-of-requires Inv-loop μ-loop
-numbers-of-requires c κs = omega (arith, counts (c .before .before .before .before .before))
-
-loop-holds : tie.Need-loop-holds Inv-loop μ-loop
-loop-holds c =
-    let b = c .before .before .before .before .before .before in
-    reading-start (c .numbers-of .ensures) (b .pre .1) (b .pre .2)
-
-field-requires : tie.Need-field-requires Inv-loop μ-loop
-field-requires c κs = omega (arith, counts (c .before .before .before .before .before .before .before .before))
-
--- `field` gives field i of the graph.
-field-is :
-    (c : tie.After-field Inv-loop μ-loop) →
-    let l = c .before .before in
-    let s = l .before .before .before .before .before .before .before .args .s .now in
-    c .field .result ≡ getD (layout-of s) (l .loop .i) none
-field-is c =
-    let l = c .before .before in
-    let s = l .before .before .before .before .before .before .before .args .s .now in
-    c .field .ensures (getD s 1 0) (omega (arith, c .before .loop-test .taken, l .before .numbers-of .ensures))
-
-sub-number : tie.Need-sub-number Inv-loop μ-loop
-sub-number c = search needs
-
-part-number-start : tie.Need-part-number-start Inv-loop μ-loop
-part-number-start c = search needs
-
-part-number-end : tie.Need-part-number-end Inv-loop μ-loop
-part-number-end c = search needs
-
-number-requires : tie.Need-number-requires Inv-loop μ-loop
-number-requires c κs =
-    let l = c .before .before .before in
-    reading-field (l .loop .inv) (c .before .before .loop-test .taken) (c .before .field .result) (field-is (c .before))
-
-mul-list : tie.Need-mul-list Inv-loop μ-loop
-mul-list c = search needs
-
-slice-write-list : tie.Need-slice-write-list Inv-loop μ-loop
-slice-write-list c = search needs
-
--- The turn is done: number i is written.
-next :
-    (c : tie.After-number Inv-loop μ-loop) →
-    let l = c .before .before .before .before in
-    let b = l .before .before .before .before .before .before .before in
-    Reading (b .args .s .now) (b .args .list .now) (set (l .loop .list) (l .loop .i) (c .number .result)) (l .before .numbers-of .result)
-    (l .loop .i + 1) (l .loop .at + c .before .before .field .result .width)
-next c =
-    let l = c .before .before .before .before in
-    reading-turn (l .loop .inv) (c .before .before .before .loop-test .taken) (c .before .before .field .result)
-    (field-is (c .before .before)) _ (c .number .ensures)
-
-add-at : tie.Need-add-at Inv-loop μ-loop
-add-at c = omega (arith, next c .there)
-
-add-i : tie.Need-add-i Inv-loop μ-loop
-add-i c = search needs
-
-loop-less : tie.Need-loop-less Inv-loop μ-loop
-loop-less c = search needs
-
-loop-again : tie.Need-loop-again Inv-loop μ-loop
-loop-again c = next c
-
-same-length : tie.Need-same-length Inv-loop μ-loop
-same-length c = c .before .loop .inv .kept
-
-returns : tie.Need-returns Inv-loop μ-loop
-returns c = reading-end (c .before .loop .inv) (c .loop-test .left)
+returns c =
+    let b = c .before .before .before .before .before .before .before .before .before .before .before .before .before .before .before .before .before .before in
+    let s = b .args .s .now in
+    let n = getD s 0 0 in
+    let m = getD s 1 0 in
+    let z = sizes-bytes in
+    let y = sizes-numbers in
+    graph-channels unpacks z y n m s (12 + 4 * n) (5 * m) (omega arith) (omega arith)
+    (graph-actors unpacks z y n m s n (omega arith) (graph-fixed unpacks z y n m s (c .before .before .before .before .before .before .before .before .before .before .before .before .before .fixed .ensures)) (c .before .before .before .before .before .before .before .before .times .ensures))
+    (c .before .before .channels .ensures)
 
 pub graph-spec : {M : Type 1} → statement M
 graph-spec =
     tie.close
     (tie.spec
-    Inv-loop
-    μ-loop
-    shared-slice-read-actors
-    cast-actors
-    shared-slice-read-numbers-of
-    cast-numbers-of
-    shared-slice-read-numbers-of-2
-    cast-numbers-of-2
-    numbers-of-requires
-    loop-holds
-    field-requires
-    sub-number
-    part-number-start
-    part-number-end
-    number-requires
-    mul-list
-    slice-write-list
+    shared-slice-read-n
+    cast-n
+    mul-at
     add-at
-    add-i
-    loop-less
-    loop-again
+    add-to
+    fixed-requires
+    sub-times
+    part-times-start
+    part-times-end
+    sub-times-2
+    part-times-start-2
+    part-times-end-2
+    times-requires
+    sub-channels
+    part-channels-start
+    part-channels-end
+    shared-slice-read-channels
+    cast-channels
+    mul-channels
+    sub-channels-2
+    part-channels-start-2
+    part-channels-end-2
+    channels-requires
     same-length
     returns)

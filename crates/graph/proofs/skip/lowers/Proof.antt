@@ -1,0 +1,43 @@
+-- `graph::skip::lowers` meets its contract.
+use native.Mathlib.Omega.{arith}
+use borrow.Author.Needs.{needs}
+use Rattle.graph.specs.Flat.{channel-at}
+use Rattle.graph.proofs.Lowering.{lowers-says}
+use Rattle.graph.proofs.skip.lowers.Statement.{statement}
+use Rattle.graph.proofs.skip.lowers.Tie as tie
+
+number-requires : tie.Need-number-requires
+number-requires c κs = search needs
+
+of-requires : tie.Need-of-requires
+of-requires c κs = search needs
+
+spare-requires : tie.Need-spare-requires
+spare-requires c κs = search needs
+
+count-requires : tie.Need-count-requires
+count-requires c κs = search needs
+
+tokens-requires : tie.Need-tokens-requires
+tokens-requires c κs = rw (c .before .before .of .ensures, c .before .before .before .number .ensures) (omega arith)
+
+count-requires-2 : tie.Need-count-requires-2
+count-requires-2 c κs = search needs
+
+returns : tie.Need-returns
+returns c =
+    let n = c .before .before .before .before .before in
+    let s = n .before .before in
+    lowers-says (channel-at (s .args .channels .now) (s .args .c)) (s .args .skip .n) (s .args .from .n) (c .before .before .count .result) (c .count2 .result) (s .pre .1) (cc) (cc)
+
+pub lowers-spec : {M : Type 1} → statement M
+lowers-spec =
+    tie.close
+    (tie.spec
+    number-requires
+    of-requires
+    spare-requires
+    count-requires
+    tokens-requires
+    count-requires-2
+    returns)
