@@ -12,7 +12,7 @@ use Rattle.demand.specs.Lent.{work-at, Lent, There}
 
 -- Where the row of a graph begins is no large number.
 pub row-at-most : {heads times q s : List ℕ} {room i : ℕ} → Lent heads times q s room → i < length heads / 3
-    → room * i ≤ engine-actors * max-graphs
+    → room * i ≤ 3 * engine-actors * max-graphs
 row-at-most l h = mul-le-mul {m₂ = max-graphs} (l .room-high) (omega (arith, l .bounded .graphs))
 
 -- The walk over the `end` actors of graph i has come to actor v.

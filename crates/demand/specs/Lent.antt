@@ -27,7 +27,7 @@ pub record Lent (heads times q s : List ℕ) (room : ℕ) : Type 0 where
   pub times-there : room * (length heads / 3) ≤ length times
   pub repetition-there : room * (length heads / 3) ≤ length q
   pub skips-there : room * (length heads / 3) ≤ length s
-  pub room-high : room ≤ engine-actors
+  pub room-high : room ≤ 3 * engine-actors
 
 -- An actor's place is there in each of the lists.
 pub record There (times q s : List ℕ) (at : ℕ) : Type 0 where

@@ -2,7 +2,7 @@
 // window, each from its end down: where demand at a length is h and no more, no length from h on to it is late, so the next look is
 // below h. From the first late length found the windows halve what is left below it.
 ghost use mathlib.Core.Path.{_≡_};
-ghost use Prim.Native.Nat.{ℕ, _+_, _*_, _-_, _/_, _<_, _≤_, min};
+ghost use Prim.Native.Nat.{ℕ, _+_, _*_, _-_, _/_, _<_, _≤_, min, max};
 ghost use lib.ListN.{length, getD};
 ghost use Rattle.sdf.specs.Sum.{sumTo};
 ghost use Rattle.units.specs.Bounds.{max-ticks};
@@ -28,6 +28,15 @@ fn sooner(a: Ticks, b: Ticks) -> Ticks
         return a;
     }
     b
+}
+
+fn later(a: Ticks, b: Ticks) -> Ticks
+    ensures { λ r. ⌜ r .n ≡ max (a .n) (b .n) ⌝ }
+{
+    if a.count() < b.count() {
+        return b;
+    }
+    a
 }
 
 // Each graph's weight, the time of its iteration.
@@ -178,19 +187,19 @@ fn search_end(
     end_of(span, share, surplus_of(heads, weight, span))
 }
 
-// The first window: twice the smallest deadline. Only the time of the search hangs on it.
+// The first window: twice the greatest deadline. Only the time of the search hangs on it.
 fn first_window(heads: &[u64]) -> Ticks
-    requires { ⌜ ((i : ℕ) → i < length (now heads) / 3 → 0 < getD (now heads) (3 * i + 1) 0) ⌝ }
     ensures { λ r. ⌜ (0 < r .n) × (r .n ≤ 2 * max-ticks) ⌝ }
 {
     let n = heads.len() / 3;
-    let mut least = Ticks::of(Ticks::MAX);
+    let mut most = Ticks::of(1);
     let mut i = 0;
     while i < n {
-        least = sooner(least, Ticks::of(heads[3 * i + 1]));
+        let deadline = sooner(Ticks::of(Ticks::MAX), Ticks::of(heads[3 * i + 1]));
+        most = later(most, deadline);
         i += 1;
     }
-    Ticks::of(2 * least.count())
+    Ticks::of(2 * most.count())
 }
 
 // The length up to which to settle next. Below a late length half of what is open; else as far again as is settled, and a window.

@@ -1,31 +1,33 @@
 -- 01, Balanced, as the engine finds it: numbers grow along the channels from the input, every balanced vector stays a whole
 -- multiple of them, and where every actor has a number they are the repetition vector or there is none.
 use mathlib.Core.Path.{_≡_, refl, sym, ap, subst, _∙_}
-use mathlib.Core.Bool.{Bool, true, false, cond, true≢false, _||_}
+use mathlib.Core.Bool.{Bool, true, false, cond}
 use mathlib.Core.Logic.{⊎-elim, _≢_, _↔_}
 use mathlib.Core.List.{List, []}
-use Prim.Native.Nat.{ℕ, _+_, _*_, _-_, _/_, _%_, _^_, _<_, _≤_, _∣_}
-use native.Mathlib.Nat.{le-refl, lt-of-le-of-lt, mul-assoc, one-mul, eq-zero-or-pos, mul-pos, mul-le-mul, mul-le-mul-right, le-mul-of-pos-right, eq-of-mul-eq-mul-left, eq-of-mul-eq-mul-right, mod-lt, mod-eq-of-lt, mod-eq-sub-mod, add-mod, mod-eq-sub-div-mul, dvd-sub, dvd-mul-left, dvd-mul-right, dvd-mul-left-of-dvd, dvd-of-mod-eq-zero, mod-eq-zero-of-dvd, div-mul-cancel}
+use Prim.Native.Nat.{ℕ, _+_, _*_, _-_, _/_, _%_, _^_, _<_, _≤_, _∣_, min, max}
+use native.Mathlib.Nat.{le-refl, mul-assoc, one-mul, eq-zero-or-pos, mul-pos, mul-le-mul, mul-le-mul-right, le-mul-of-pos-right, eq-of-mul-eq-mul-left, eq-of-mul-eq-mul-right, mod-lt, mod-eq-of-lt, mod-eq-sub-mod, add-mod, mod-eq-sub-div-mul, dvd-sub, dvd-mul-left, dvd-mul-right, dvd-mul-left-of-dvd, dvd-of-mod-eq-zero, mod-eq-zero-of-dvd, div-mul-cancel}
 use native.Mathlib.Omega.{arith}
-use borrow.Author.Count.{below-more}
-use lib.ListN.{length, getD, set, length-set}
+use lib.Dec.{eqb, ltb}
+use lib.ListN.{length, getD, set}
 use lib.Seq.{getD-set-same, getD-set-other}
+use borrow.Author.Count.{below-more}
+use borrow.Author.Tests.{eqb-false, eqb-true}
 use Rattle.units.specs.Bounds.{max-rate, max-repetition}
+use Rattle.sets.specs.Sets.{has, Covers, Below, Put, Marked, Gathers, word}
+use Rattle.sets.proofs.Bits.{has-none, has-small, has-bit}
+use Rattle.sets.proofs.Gather.{gather-start, gather-vector}
 use Rattle.sdf.specs.Graph.{Channel, Graph, Sound, Along, Reaches}
 use Rattle.sdf.specs.Balance.{Balanced, AtMost, Balances}
 use Rattle.sdf.proofs.Numbers.{eq-or-ne, sub-mul}
-use Rattle.sdf.proofs.Sum.{sum-mono}
-use Rattle.sdf.proofs.Settle.{put, put-same, put-other, put-keeps, sum-lower}
+use Rattle.sdf.proofs.Settle.{put, put-same, put-other}
 use Rattle.sdf.proofs.Balance.{settled, past-bound}
 use Rattle.sdf.proofs.Reach.{reach-closed, reach-step}
-use Rattle.graph.specs.Flat.{vector}
-use Rattle.graph.specs.Reach.{AllFrom, Within}
-use Rattle.graph.specs.Links.{Chain}
-use Rattle.graph.specs.Repetition.{Numbered, LeastFactor, Multiples, Grown, unnumbered, Follows, Looked, Given, Passes, Even, Equal, Repeats}
-use Rattle.graph.specs.Read.{Read}
-use Rattle.graph.specs.declared.repetition.Growth.the-variants.{Still, More}
-use Rattle.graph.proofs.Chains.{Walked, walked-start, walked-turn}
-use Rattle.graph.proofs.Places.{stored}
+use Rattle.trial.specs.Flat.{vector}
+use Rattle.trial.specs.Read.{Read}
+use Rattle.trial.specs.Knot.{enough, waits, Awaits}
+use Rattle.trial.proofs.Places.{stored}
+use Rattle.graph.specs.Words.{AllFrom, Joins, Words}
+use Rattle.graph.specs.Repetition.{Numbered, LeastFactor, Multiples, Within, Grown, Extended, Even, Equal, Repeats}
 
 -- Firings within the bound at a rate within it move fewer tokens than 64 bits hold.
 pub moved-fits : {n rate : ℕ} → n ≤ max-repetition → rate ≤ max-rate → n * rate < 2 ^ 64
@@ -155,14 +157,6 @@ module _ {g : Graph} {c : ℕ} {e : Channel} {x : ℕ → ℕ} {k : ℕ} (i : Ex
   next-some : (y : ℕ → ℕ) → Next (g .actors) k e x y → 0 < y (e .head)
   next-some y next = positive-factor (y (e .head)) (e .consume) (rw (next .head) (mul-pos (mul-pos (i .given) (i .factor .positive)) (i .read .produce .0)))
 
-  next-fewer : (y : ℕ → ℕ) → Next (g .actors) k e x y → unnumbered g y < unnumbered g x
-  unfolding unnumbered
-  next-fewer y next =
-      let some : 0 < y (e .head) = next-some y next in
-      lt-of-le-of-lt
-      (sum-mono (λ v. 1 - y v) (put (λ v. 1 - x v) (e .head) 0) (g .actors) (λ v lv. put-keeps (λ v n. 1 - y v ≤ n) (λ v. 1 - x v) (e .head) 0 (omega arith) v (omega (arith, next-above y next v lv))))
-      (sum-lower (λ v. 1 - x v) (e .head) 0 (g .actors) (i .read .head) (omega arith))
-
   whole-head : x (e .tail) * k * e .produce / e .consume * e .consume ≡ x (e .tail) * k * e .produce
   whole-head = div-mul-cancel (e .consume) (subst (λ (m : ℕ). e .consume ∣ m) (omega arith) (i .factor .divides))
 
@@ -196,144 +190,33 @@ module _ {g : Graph} {c : ℕ} {e : Channel} {x : ℕ → ℕ} {k : ℕ} (i : Ex
     pub past-head : max-repetition < n → ¬ Balances g max-repetition
     past-head m = past-next (vector (set s (e .head) n)) stored-next (e .head) (i .read .head) (rw stored-head m)
 
-    -- With the head's number stored, every balanced vector is again a multiple, and fewer actors are without a number. With its
-    -- mark too, the channels that were looked at still are, and this one is.
-    pub extended : (marks : List ℕ) → g .actors ≤ length marks → n ≤ max-repetition
-        → let y = vector (set s (e .head) n) in
-        let marks′ = vector (set marks (e .head) 1) in
-        Grown g y × (unnumbered g y < unnumbered g x) × ((d : ℕ) → Looked g x (vector marks) d → Looked g y marks′ d) × Looked g y marks′ c
-    extended marks marked b =
-        let y = vector (set s (e .head) n) in
-        let marks′ = vector (set marks (e .head) 1) in (
-          record {
-            input = omega (arith, i .grown .input, next-above y stored-next (g .input) (i .sound .input));
-            within = next-within y stored-next;
-            bound = λ v lv. stored (λ _ n. n ≤ max-repetition) s (e .head) n (omega (arith, i .read .head)) b v (λ _. scaled v lv .1);
-            multiple = next-multiples y stored-next;
-          },
-          next-fewer y stored-next,
-          λ d w l z p.
-              let tail = g .channel d .tail in
-              let head = g .channel d .head in
-              let other : tail ≢ e .head = λ same. omega (arith, ap marks′ same, getD-set-same marks (e .head) 1 0 (omega (arith, i .read .head))) in
-              let had : 0 < x tail = positive-factor (x tail) k (omega (arith, stored-next .others tail (i .sound .tail d l) other)) in
-              omega (arith, w l (omega (arith, getD-set-other marks (e .head) tail 1 0 other)) had, next-above y stored-next head (i .sound .head d l)),
-          λ l z p. rw (i .read .is) (next-some y stored-next),
-        )
+-- Where c divides m, the least factor is 1.
+pub factor-one : {m c : ℕ} (n : ℕ) → n * c ≡ m → LeastFactor m c 1
+factor-one {m} {c} n e = record { positive = omega arith; divides = subst (λ (x : ℕ). c ∣ x) (e ∙ sym (one-mul m)) (dvd-mul-left c n); least = λ j p d. p }
+
+module _ {g : Graph} {c : ℕ} {e : Channel} {before : List ℕ} {k : ℕ} (i : Extending g c e (vector before) k) (s : List ℕ) (scaled : (v : ℕ) → v < g .actors → (vector s v ≡ vector before v * k) × (vector s v ≤ max-repetition)) (n : ℕ) (number : n ≡ vector s (e .tail) * e .produce / e .consume) (room : g .actors ≤ length s) where
+  -- With the head's number stored, every balanced vector is again a multiple, and no other actor has got a number or lost it.
+  pub extended : n ≤ max-repetition → Extended g c before (set s (e .head) n)
+  extended b =
+      let y = vector (set s (e .head) n) in
+      let next : Next (g .actors) k e (vector before) y = stored-next i s scaled n number room in
+      record {
+        grown = record {
+          input = omega (arith, i .grown .input, next-above i y next (g .input) (i .sound .input));
+          within = next-within i y next;
+          bound = λ v lv. stored (λ _ n. n ≤ max-repetition) s (e .head) n (omega (arith, i .read .head)) b v (λ _. scaled v lv .1);
+          multiple = next-multiples i y next;
+        };
+        head = rw (i .read .is) (next-some i y next);
+        others = λ v lv d.
+            let o : v ≢ e .head = rw (i .read .is) at d in
+            (λ p. positive-factor (vector before v) k (omega (arith, next .others v lv o)), λ p. rw (next .others v lv o) (mul-pos p (i .factor .positive)));
+      }
 
 module _ (g : Graph) (c : ℕ) (e : Channel) (is : g .channel c ≡ e) where
-  -- The graph's channel follows if the channel read does.
-  pub follows : (x : ℕ → ℕ) → (0 < x (e .tail) → 0 < x (e .head)) → Follows g x c
-  follows x f = rw is f
-
   -- Both ends move as much on the graph's channel exactly if they do on the channel read.
   pub even : (x : ℕ → ℕ) → (x (e .tail) * e .produce ≡ x (e .head) * e .consume) ↔ Even g x c
   even x = (λ h. rw is h, λ h. rw is at h)
-
--- Where nothing changed no number was given.
-pub given-none : {g : Graph} {q marks : List ℕ} → Grown g (vector q) → Given g false q marks q marks
-given-none grown = record { grown = grown; fewer = omega arith; looked = λ d w. w; still = λ _. (refl, refl) }
-
-given-again : {g : Graph} {more : Bool} {before flags now marks after left : List ℕ} (gave : Bool) → Given g more before flags now marks → Given g gave now marks after left
-    → Given g (gave || more) before flags after left
-given-again true p s = record {
-  grown = s .grown;
-  fewer = omega (arith, p .fewer, s .fewer);
-  looked = λ d w. s .looked d (p .looked d w);
-  still = λ e. absurd (true≢false e);
-}
-given-again false p s = record {
-  grown = s .grown;
-  fewer = omega (arith, p .fewer, s .fewer);
-  looked = λ d w. s .looked d (p .looked d w);
-  still = λ e. (s .still refl .0 ∙ p .still e .0, s .still refl .1 ∙ p .still e .1);
-}
-
--- A walk along the channels out of v: those that it has passed are looked at.
-pub record Growing (g : Graph) (v at : ℕ) (more : Bool) (before flags now marks : List ℕ) : Type 0 where
-  pub same-length : length now ≡ length before
-  pub flags-length : length marks ≡ length flags
-  pub given : Given g more before flags now marks
-  pub walked : Walked (λ d. g .channel d .tail) v (g .channels) at (λ d. g .channel d .tail ≡ v → Looked g (vector now) (vector marks) d)
-
--- Before the first of them.
-pub growing-start : {g : Graph} {v at : ℕ} {q marks : List ℕ} → Grown g (vector q) → Chain (λ d. g .channel d .tail) v (g .channels) at → Growing g v at false q marks q marks
-growing-start grown chain = record { same-length = refl; flags-length = refl; given = given-none grown; walked = walked-start _ chain (λ d n e. absurd (n e)) }
-
--- One channel more.
-pub growing-turn : {g : Graph} {v at next c : ℕ} {more : Bool} {before flags now marks after left : List ℕ} (gave : Bool) → Growing g v at more before flags now marks
-    → at ≡ c + 1 → Chain (λ d. g .channel d .tail) v c next → Given g gave now marks after left × Looked g (vector after) (vector left) c → length after ≡ length now → length left ≡ length marks
-    → Growing g v next (gave || more) before flags after left
-growing-turn gave p here chain s same kept = record {
-  same-length = same ∙ p .same-length;
-  flags-length = kept ∙ p .flags-length;
-  given = given-again gave (p .given) (s .0);
-  walked = walked-turn _ (p .walked) here chain (λ d l n e. absurd (n e)) (λ _. s .1) (λ d l w e. s .0 .looked d (w e));
-}
-
--- At the end of the list.
-pub growing-end : {g : Graph} {v at : ℕ} {more : Bool} {before flags now marks : List ℕ} → at ≤ 0 → Growing g v at more before flags now marks
-    → Given g more before flags now marks × ((d : ℕ) → g .channel d .tail ≡ v → Looked g (vector now) (vector marks) d)
-growing-end h p = (p .given, λ d e l. p .walked .passed d (omega arith) l e l)
-
--- A pass over the actors before v: if none got a number, none of them is marked.
-pub record Passing (g : Graph) (v : ℕ) (more : Bool) (before flags now marks : List ℕ) : Type 0 where
-  pub same-length : length now ≡ length before
-  pub flags-length : length marks ≡ length flags
-  pub grown : Grown g (vector now)
-  pub fewer : unnumbered g (vector now) + cond more 1 0 ≤ unnumbered g (vector before)
-  pub looked : (d : ℕ) → Looked g (vector now) (vector marks) d
-  pub still : more ≡ false → (now ≡ before) × ((w : ℕ) → w < v → getD marks w 0 ≡ 0)
-
--- Before the first actor.
-pub passing-start : {g : Graph} {q marks : List ℕ} → Grown g (vector q) → ((d : ℕ) → Looked g (vector q) (vector marks) d) → Passing g 0 false q marks q marks
-passing-start grown looked = record { same-length = refl; flags-length = refl; grown = grown; fewer = omega arith; looked = looked; still = λ _. (refl, λ w l. omega arith) }
-
-module _ {g : Graph} {v : ℕ} {more : Bool} {before flags now marks : List ℕ} (p : Passing g v more before flags now marks) where
-  -- An actor without a mark.
-  pub passing-by : getD marks v 0 ≡ 0 → Passing g (v + 1) more before flags now marks
-  passing-by z = record {
-    same-length = p .same-length;
-    flags-length = p .flags-length;
-    grown = p .grown;
-    fewer = p .fewer;
-    looked = p .looked;
-    still = λ e. (p .still e .0, below-more (λ w. getD marks w 0 ≡ 0) v (p .still e .1) z);
-  }
-
-  -- An actor whose mark is taken off, and the channels out of it are looked at.
-  pub passing-turn : {after left : List ℕ} (gave : Bool) → v < length marks
-      → Given g gave now (set marks v 0) after left × ((d : ℕ) → g .channel d .tail ≡ v → Looked g (vector after) (vector left) d) → length after ≡ length now → length left ≡ length (set marks v 0)
-      → Passing g (v + 1) (gave || more) before flags after left
-  passing-turn {after} {left} gave room s same kept = record {
-    same-length = same ∙ p .same-length;
-    flags-length = kept ∙ length-set marks v 0 ∙ p .flags-length;
-    grown = s .0 .grown;
-    fewer = less gave (s .0);
-    looked = λ d. ⊎-elim (λ e. s .1 d e) (λ n. s .0 .looked d (λ l z. p .looked d l (omega (arith, getD-set-other marks v (g .channel d .tail) 0 0 n)))) (eq-or-ne (g .channel d .tail) v);
-    still = none gave (s .0);
-  }
-    where
-      less : (gave : Bool) → Given g gave now (set marks v 0) after left → unnumbered g (vector after) + cond (gave || more) 1 0 ≤ unnumbered g (vector before)
-      less true s = omega (arith, p .fewer, s .fewer)
-      less false s = omega (arith, p .fewer, s .fewer)
-
-      none : (gave : Bool) → Given g gave now (set marks v 0) after left → gave || more ≡ false → (after ≡ before) × ((w : ℕ) → w < v + 1 → getD left w 0 ≡ 0)
-      none true s e = absurd (true≢false e)
-      none false s e = (
-        s .still refl .0 ∙ p .still e .0,
-        λ w l. rw (s .still refl .1) (stored (λ w n. w < v + 1 → n ≡ 0) marks v 0 room (λ _. refl) w (λ d l. p .still e .1 w (omega (arith, d))) l),
-      )
-
--- A pass over all actors that gave no number changed nothing, and every channel follows.
-pub passing-still : {g : Graph} {v : ℕ} {before flags now marks : List ℕ} → Sound g → g .actors ≤ v → Passing g v false before flags now marks → Passes g Still before now marks
-passing-still {g} sound h p =
-    let none = p .still refl in
-    (none .0, λ c l. rw (none .0) at (p .looked c l (none .1 (g .channel c .tail) (omega (arith, sound .tail c l)))))
-
--- One that gave a number leaves fewer actors without.
-pub passing-more : {g : Graph} {v : ℕ} {before flags now marks : List ℕ} → Passing g v true before flags now marks → Passes g More before now marks
-passing-more p = (p .grown, omega (arith, p .fewer), p .looked)
 
 -- With 1 at the input and no other number, every balanced vector is a multiple.
 pub grown-start : (g : Graph) (q : List ℕ) → g .input < length q → ((v : ℕ) → v < g .actors → vector q v ≡ 0) → Grown g (vector (set q (g .input) 1))
@@ -345,14 +228,6 @@ grown-start g q h none =
       bound = λ v lv. stored (λ _ n. n ≤ max-repetition) q (g .input) 1 h (omega arith) v (λ _. omega (arith, none v lv));
       multiple = λ b e. (b (g .input), λ v lv. stored (λ v n. 0 < n → b v ≡ b (g .input) * n) q (g .input) 1 h (λ _. omega arith) v (λ _ p. omega (arith, none v lv)));
     }
-
--- With its mark there: no channel comes from another actor with a number.
-pub looked-start : (g : Graph) (q marks : List ℕ) → g .input < length marks → Sound g → ((v : ℕ) → v < g .actors → vector q v ≡ 0)
-    → (d : ℕ) → Looked g (vector (set q (g .input) 1)) (vector (set marks (g .input) 1)) d
-looked-start g q marks room sound none d l z p =
-    let tail = g .channel d .tail in
-    let other : tail ≢ g .input = λ e. omega (arith, ap (vector (set marks (g .input) 1)) e, getD-set-same marks (g .input) 1 0 room) in
-    absurd (omega (arith, getD-set-other q (g .input) tail 1 0 other, none tail (sound .tail d l)))
 
 module _ (g : Graph) (q : List ℕ) (grown : Grown g (vector q)) where
   -- Grown numbers that every channel follows stand at every actor that the input reaches.
@@ -377,3 +252,169 @@ module _ (g : Graph) (q : List ℕ) (grown : Grown g (vector q)) where
         let e = g .channel c in
         eq-of-mul-eq-mul-left j (multiplier-positive g (vector q) (grown .multiple) b (a .1) (g .input) (sound .input) (grown .input)) _ _
         (omega (arith, a .1 .equal c l, ap (λ (m : ℕ). m * e .produce) (at (e .tail) (sound .tail c l)), ap (λ (m : ℕ). m * e .consume) (at (e .head) (sound .head c l)))))
+
+-- Whom the numbers stand at, and who is next: those known have a number, and those to do are the others whom a channel leads to from
+-- somebody known.
+pub record Growing (g : Graph) (words : List ℕ) (known todo : ℕ) (q : List ℕ) : Type 0 where
+  pub grown : Grown g (vector q)
+  pub counted : (v : ℕ) → v < g .actors → (has known v ≡ 1) ↔ (0 < vector q v)
+  pub inside : Below known (g .actors)
+  pub apart : (v : ℕ) → has todo v ≡ 1 → has known v ≡ 0
+  pub comes : (v : ℕ) → has todo v ≡ 1 → (t : ℕ) × (has known t ≡ 1) × (has (word words 0 t) v ≡ 1)
+  pub leads : (v w : ℕ) → has known v ≡ 1 → has (word words 0 v) w ≡ 1 → 0 < has known w + has todo w
+
+-- With the input alone.
+pub growing-start : {g : Graph} {words : List ℕ} (q : List ℕ) {known todo : ℕ} → Sound g → g .input < length q → ((v : ℕ) → v < g .actors → vector q v ≡ 0)
+    → Put 0 (g .input) 1 known → ((v : ℕ) → has todo v ≡ has (word words 0 (g .input)) v - has known v) → Growing g words known todo (set q (g .input) 1)
+growing-start {g} {words} q {known} {todo} sound room none p t =
+    record {
+      grown = grown-start g q room none;
+      counted = λ v l. stored (λ v n. (has known v ≡ 1) ↔ (0 < n)) q (g .input) 1 room (λ _. omega arith, λ _. p .here) v (λ d. (λ h. absurd (d (alone v h)), λ h. absurd (omega (arith, none v l))));
+      inside = λ v h. rw (alone v h) (sound .input);
+      apart = λ v h. omega (arith, t v, has-small (word words 0 (g .input)) v);
+      comes = λ v h. (g .input, p .here, omega (arith, t v, has-small (word words 0 (g .input)) v));
+      leads = λ v w h l.
+          let m : has (word words 0 (g .input)) w ≡ 1 = subst (λ (v : ℕ). has (word words 0 v) w ≡ 1) (alone v h) l in
+          omega (arith, t w);
+    }
+  where
+    alone : (v : ℕ) → has known v ≡ 1 → v ≡ g .input
+    alone v h = ⊎-elim (λ e. e) (λ d. absurd (omega (arith, p .there v d, has-none v))) (eq-or-ne v (g .input))
+
+module _ {g : Graph} {words between : List ℕ} {known todo : ℕ} {q : List ℕ} (sound : Sound g) (told : Words g words between) (i : Growing g words known todo q) where
+  -- Who is to do is an actor.
+  pub growing-actor : (h : ℕ) → has todo h ≡ 1 → h < g .actors
+  growing-actor h o =
+      let t = i .comes h o in
+      let c = told .heads .comes (t .0) h (i .inside (t .0) (t .1)) (t .2) in
+      subst (λ (v : ℕ). v < g .actors) (c .3) (sound .head (c .0) (c .1))
+
+  -- A channel comes to it from somebody known.
+  pub growing-some : (h both : ℕ) → has todo h ≡ 1 → ((v : ℕ) → has both v ≡ min (has (word words 1 h) v) (has known v)) → 0 < both
+  growing-some h both o m =
+      let t = i .comes h o in
+      let c = told .heads .comes (t .0) h (i .inside (t .0) (t .1)) (t .2) in
+      let s : has (word words 1 (g .channel (c .0) .head)) (g .channel (c .0) .tail) ≡ 1 = told .tails .holds (c .0) (c .1) refl in
+      let w : has (word words 1 h) (t .0) ≡ 1 = rw (c .2, c .3) at s in
+      ⊎-elim
+      (λ (z : both ≡ 0). absurd (omega (arith, m (t .0), t .1, ap (λ (x : ℕ). has x (t .0)) z, has-none (t .0))))
+      (λ p. p)
+      (eq-zero-or-pos both)
+
+  -- By the channel that stands for the two of them.
+  pub growing-joins : (h t both : ℕ) → has todo h ≡ 1 → ((v : ℕ) → has both v ≡ min (has (word words 1 h) v) (has known v)) → has both t ≡ 1
+      → (t < g .actors) × Joins g (getD between (g .actors * t + h) 0) t h × (0 < vector q t) × (vector q h ≡ 0)
+  growing-joins h t both o m b =
+      let k : has known t ≡ 1 = omega (arith, m t, has-small known t, has-small (word words 1 h) t) in
+      let lt : t < g .actors = i .inside t k in
+      let lh : h < g .actors = growing-actor h o in
+      let c = told .tails .comes h t lh (omega (arith, m t, has-small known t, has-small (word words 1 h) t)) in
+      let s : has (word words 0 (g .channel (c .0) .tail)) (g .channel (c .0) .head) ≡ 1 = told .heads .holds (c .0) (c .1) refl in
+      let w : has (word words 0 t) h ≡ 1 = rw (c .2, c .3) at s in (
+        lt,
+        told .joins t h lt lh w,
+        i .counted t lt .0 k,
+        ⊎-elim (λ z. z) (λ p. absurd (omega (arith, i .counted h lh .1 p, i .apart h o))) (eq-zero-or-pos (vector q h)),
+      )
+
+  -- Once it has its number it is known, and those that it leads to are to do.
+  pub growing-turn : {h c known' todo' : ℕ} (both : ℕ) {q' : List ℕ} → has todo h ≡ 1 → g .channel c .head ≡ h → Extended g c q q' → Put known h (max (has known h) 1) known'
+      → ((v : ℕ) → has both v ≡ max (has todo v) (has (word words 0 h) v)) → ((v : ℕ) → has todo' v ≡ has both v - has known' v) → Growing g words known' todo' q'
+  growing-turn {h} {c} {known'} {todo'} both {q'} o at x p b t =
+      record {
+        grown = x .grown;
+        counted = λ v l. ⊎-elim
+            (λ (e : v ≡ h). (λ _. rw (e, ← at) (x .head), λ _. rw e here))
+            (λ d. let other : v ≢ g .channel c .head = rw at d in (
+              λ k. x .others v l other .1 (i .counted v l .0 (omega (arith, p .there v d))),
+              λ k. omega (arith, p .there v d, i .counted v l .1 (x .others v l other .0 k)),
+            ))
+            (eq-or-ne v h);
+        inside = λ v k. ⊎-elim (λ (e : v ≡ h). rw e (growing-actor h o)) (λ d. i .inside v (omega (arith, p .there v d))) (eq-or-ne v h);
+        apart = λ v k. omega (arith, t v, b v, has-small todo v, has-small (word words 0 h) v);
+        comes = λ v k. ⊎-elim
+            (λ z. (h, here, omega (arith, t v, b v, has-small (word words 0 h) v)))
+            (λ m. let u = i .comes v m in (u .0, kept (u .0) (u .1), u .2))
+            (has-bit todo v);
+        leads = λ v w k l. ⊎-elim
+            (λ (e : v ≡ h).
+            let m : has (word words 0 h) w ≡ 1 = subst (λ (v : ℕ). has (word words 0 v) w ≡ 1) e l in
+            omega (arith, t w, b w))
+            (λ d. more w (i .leads v w (omega (arith, p .there v d)) l))
+            (eq-or-ne v h);
+      }
+    where
+      here : has known' h ≡ 1
+      here = omega (arith, p .here, has-small known h)
+
+      kept : (v : ℕ) → has known v ≡ 1 → has known' v ≡ 1
+      kept v k = ⊎-elim (λ (e : v ≡ h). rw e here) (λ d. omega (arith, p .there v d)) (eq-or-ne v h)
+
+      more : (w : ℕ) → 0 < has known w + has todo w → 0 < has known' w + has todo' w
+      more w s = ⊎-elim
+          (λ z. omega (arith, t w, b w))
+          (λ k. omega (arith, kept w k))
+          (has-bit known w)
+
+  -- Where nobody is left to do, every channel from somebody with a number leads to one.
+  growing-numbered : todo ≡ 0 → Numbered g (vector q)
+  growing-numbered z c l p =
+      let tail = g .channel c .tail in
+      let head = g .channel c .head in
+      let k : has known tail ≡ 1 = i .counted tail (sound .tail c l) .1 p in
+      i .counted head (sound .head c l) .0
+      (omega (arith, i .leads tail head k (told .heads .holds c l refl), ap (λ (x : ℕ). has x head) z, has-none head, has-small known head))
+
+  -- Where all are known, all have a number.
+  pub growing-all : Covers known (g .actors) → (v : ℕ) → v < g .actors → 0 < vector q v
+  growing-all all v l = i .counted v l .0 (all v l)
+
+  -- Where not all are and nobody is left to do, the input does not reach them all.
+  pub growing-unreached : todo ≡ 0 → (¬ Covers known (g .actors)) → ¬ AllFrom g (g .input)
+  growing-unreached z n all = n (λ v l. i .counted v l .1 (grown-reached g q (i .grown) (growing-numbered z) all v l))
+
+module _ (e : Channel) (q : ℕ → ℕ) where
+  -- From an actor to itself what one firing takes is enough.
+  pub enough-self : e .tail ≡ e .head → e .consume ≡ enough e q
+  unfolding enough
+  enough-self h = go (eqb (e .tail) (e .head)) refl
+    where
+      go : (r : Bool) → eqb (e .tail) (e .head) ≡ r → e .consume ≡ cond r (e .consume) (q (e .tail) * e .produce)
+      go true p = refl
+      go false p = absurd (eqb-false (e .tail) (e .head) p h)
+
+  -- From one actor to another, all that the tail puts.
+  pub enough-other : e .tail ≢ e .head → q (e .tail) * e .produce ≡ enough e q
+  unfolding enough
+  enough-other d = go (eqb (e .tail) (e .head)) refl
+    where
+      go : (r : Bool) → eqb (e .tail) (e .head) ≡ r → q (e .tail) * e .produce ≡ cond r (e .consume) (q (e .tail) * e .produce)
+      go true p = absurd (d (eqb-true (e .tail) (e .head) p))
+      go false p = refl
+
+-- Numbers that stand as they were are 1 times as large.
+pub unscaled : {g : Graph} (q : List ℕ) → Grown g (vector q) → (v : ℕ) → v < g .actors → (vector q v ≡ vector q v * 1) × (vector q v ≤ max-repetition)
+unscaled q grown v l = (omega arith, grown .bound v l)
+
+-- The channels before c are even, and who has to wait for whom by them is gathered.
+pub record Settling (g : Graph) (q : ℕ → ℕ) (c : ℕ) (awaits : List ℕ) : Type 0 where
+  pub evens : (d : ℕ) → d < c → Even g q d
+  pub gathers : Gathers (g .actors) c (λ d. g .channel d .head) (λ d. g .channel d .tail) (waits g q) (vector awaits)
+
+-- Before the first channel.
+pub settling-start : (g : Graph) (q : ℕ → ℕ) (awaits : List ℕ) → ((v : ℕ) → v < g .actors → vector awaits v ≡ 0) → Settling g q 0 awaits
+settling-start g q awaits none = record { evens = λ d l. absurd (omega arith); gathers = gather-start (g .actors) _ _ (waits g q) (vector awaits) none }
+
+-- One channel more, read as e.
+pub settling-turn : {g : Graph} {q : ℕ → ℕ} {c : ℕ} {before after : List ℕ} (e : Channel) → Settling g q c before → g .channel c ≡ e → Even g q c
+    → Marked (e .head) (e .tail) (cond (ltb (e .tokens) (enough e q)) 1 0) before after → Settling g q (c + 1) after
+settling-turn {g} {q} {c} {before} {after} e s is h m = record {
+  evens = below-more (Even g q) c (s .evens) h;
+  gathers = gather-vector (s .gathers) (subst (λ (e : Channel). Marked (e .head) (e .tail) (cond (ltb (e .tokens) (enough e q)) 1 0) before after) (sym is) m);
+}
+
+-- After the last.
+pub settling-end : {g : Graph} {q : ℕ → ℕ} {c : ℕ} {awaits : List ℕ} → Settling g q c awaits → c ≡ g .channels → Equal g q × Awaits g q (vector awaits)
+settling-end {g} {q} {c} {awaits} s e =
+    let t : Settling g q (g .channels) awaits = subst (λ (c : ℕ). Settling g q c awaits) e s in
+    (t .evens, t .gathers)

@@ -1,12 +1,4 @@
-pub mod Decided
-pub mod Ends
-pub mod Vectors
-pub mod Places
-pub mod Marks
+pub mod Drawing
+pub mod Reaching
 pub mod Growth
-pub mod Chains
-pub mod Sweeps
-pub mod Firing
-pub mod Run
-pub mod Blocking
 pub mod Lowering

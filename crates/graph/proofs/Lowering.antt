@@ -1,15 +1,13 @@
--- 01, Skip numbers: the vector that starts above every skip and is lowered channel by channel, and what it is when a pass lowers
--- nothing.
+-- 01, Skip numbers: the vector that starts above every skip and is lowered channel by channel, and what it is when every channel
+-- is met.
 use mathlib.Core.Path.{_≡_, refl, sym, ap, _∙_, subst, subst₂, subst⁻¹}
-use mathlib.Core.Bool.{Bool, true, false, cond, true≢false}
 use mathlib.Core.Logic.{⊎-elim, _≢_}
 use mathlib.Core.List.{List}
-use Prim.Native.Nat.{ℕ, _+_, _*_, _^_, _<_, _≤_}
-use native.Mathlib.Nat.{le-refl, le-trans, mul-le-mul, div-lt-iff-lt-mul, le-div-iff-mul-le}
+use Prim.Native.Nat.{ℕ, _+_, _*_, _-_, _^_, _<_, _≤_, max, zero-le}
+use native.Mathlib.Nat.{le-refl, le-trans, mul-le-mul, div-lt-iff-lt-mul, le-div-iff-mul-le, eq-zero-or-pos}
 use native.Mathlib.Omega.{arith}
 use lib.ListN.{length, getD, set, length-set}
 use lib.Dec.{ltb}
-use lib.Seq.{getD-set-same, getD-set-other}
 use Rattle.units.specs.Bounds.{engine-actors, max-tokens, max-repetition}
 use Rattle.sdf.specs.Graph.{Channel, Graph, Reached}
 use Rattle.sdf.specs.Skip.{allowed, Skips}
@@ -17,83 +15,99 @@ use Rattle.sdf.specs.Sum.{sumTo}
 use Rattle.sdf.proofs.Numbers.{lt-or-ge, eq-or-ne}
 use Rattle.sdf.proofs.Settle.{put, put-same, put-other, put-keeps, sum-lower}
 use Rattle.sdf.proofs.Skip.{relax-law, settled-skips, skips-exist, skips-bounded, skip-step-fits}
-use Rattle.graph.specs.Flat.{vector, Drawn}
-use Rattle.graph.specs.Decides.{Decides}
-use Rattle.graph.specs.Links.{Chain}
+use Rattle.trial.specs.Flat.{vector, Drawn}
+use Rattle.trial.specs.Links.{Chain}
+use Rattle.trial.proofs.Chains.{Walked, walked-start, walked-turn}
+use Rattle.trial.proofs.Ends.{Ends}
+use Rattle.sets.specs.Decides.{Decides}
+use Rattle.sets.specs.Sets.{has, word, Below, Covers, Put}
+use Rattle.sets.proofs.Bits.{has-none, has-small, has-bit, has-same, put-less}
+use Rattle.sets.proofs.Decided.{decides-same, decides-less}
+use Rattle.sets.proofs.Vectors.{vector-set}
 use Rattle.graph.specs.Repetition.{Repeats}
-use Rattle.graph.specs.Skip.{max-skip, Highest, Falling, Watched, Lowered}
-use Rattle.graph.proofs.Chains.{Walked, walked-start, walked-turn}
-use Rattle.graph.proofs.Decided.{decides-same, decides-less}
-use Rattle.graph.proofs.Ends.{Ends}
-use Rattle.graph.proofs.Places.{stored}
-use Rattle.graph.proofs.Vectors.{vector-set}
+use Rattle.graph.specs.Skip.{max-skip, Highest, Falling, Meets, Watched, Lowered}
+use Rattle.graph.specs.Words.{Words, Unskipped}
 
--- What the first vector holds at v, but for the output.
-abbrev pub High : ℕ → (ℕ → ℕ) → ℕ → ℕ → Type 0
-High actors q v n = n ≡ actors * max-tokens * q v
+-- A share of 0 or 1 is at most the whole.
+pub share-le : (a b : ℕ) → a * (1 - b) ≤ a
+share-le a b = let h : 1 - b ≤ 1 = omega arith in omega (arith, mul-le-mul (le-refl a) h)
 
--- The first vector, once the output is set to 0.
-pub highest-end : (actors output : ℕ) (q : ℕ → ℕ) (s : List ℕ) → ((v : ℕ) → v < actors → High actors q v (getD s v 0)) → output < length s → Highest actors output q (vector (set s output 0))
-highest-end actors output q s h l =
-    record { high = λ v k d. rw (getD-set-other s output v 0 0 d) (h v k); none = getD-set-same s output 0 0 l }
+-- What the first vector holds at v.
+abbrev pub High : (actors zeros : ℕ) → (ℕ → ℕ) → ℕ → ℕ → Type 0
+High actors zeros q v n = n ≡ actors * max-tokens * (q v * (1 - has zeros v))
 
--- The first vector is above every skip.
-pub falling-start : (g : Graph) (q : List ℕ) (s : ℕ → ℕ) → Drawn g → Reached g → Repeats g q → Highest (g .actors) (g .output) (vector q) s → Falling g s
-falling-start g q s drawn reached repeats h =
-    let k = skips-exist g (drawn .sound) reached in
+-- The first vector, once every actor has its entry.
+pub highest-end : (actors zeros : ℕ) (q s : ℕ → ℕ) → ((v : ℕ) → v < actors → High actors zeros q v (s v)) → Highest actors zeros q s
+highest-end actors zeros q s h =
     record {
-      above = λ x a v l. ⊎-elim
-          (λ e. rw e (omega (arith, a .output)))
-          (λ d. omega (arith, k .1 .greatest x a v l, skips-bounded g (vector q) (k .0) max-tokens (drawn .sound) reached (repeats .repetition .balanced) (drawn .tokens) (k .1) v l, h .high v l d))
-          (eq-or-ne v (g .output));
-      output = h .none;
-      bound = λ v l. ⊎-elim (λ e. rw e (omega (arith, h .none))) (λ d. omega (arith, h .high v l d, mul-le-mul (drawn .actors) (repeats .bound v l))) (eq-or-ne v (g .output));
+      high = λ v l z. omega (arith, h v l, ap (λ (x : ℕ). actors * max-tokens * (q v * (1 - x))) z);
+      none = λ v l o. omega (arith, h v l, ap (λ (x : ℕ). actors * max-tokens * (q v * (1 - x))) o);
     }
 
--- The first vector, with the output ready: every other channel is met, since its rates balance.
-pub watched-start : (g : Graph) (q : List ℕ) (s : ℕ → ℕ) (ready : List ℕ) → Drawn g → Repeats g q → Highest (g .actors) (g .output) (vector q) s → g .output < length ready
-    → (d : ℕ) → Watched g s (vector (set ready (g .output) 1)) d
-unfolding allowed
-watched-start g q s ready drawn repeats h room d l z =
-    let e = g .channel d in
-    let most = g .actors * max-tokens * vector q (e .tail) in
-    let tail : s (e .tail) ≤ most = ⊎-elim (λ i. rw i (omega (arith, h .none))) (λ n. omega (arith, h .high (e .tail) (drawn .sound .tail d l) n)) (eq-or-ne (e .tail) (g .output)) in
-    let head : s (e .head) ≡ g .actors * max-tokens * vector q (e .head) = h .high (e .head) (drawn .sound .head d l) (λ i. omega (arith, ap (vector (set ready (g .output) 1)) i, getD-set-same ready (g .output) 1 0 room)) in
-    le-trans tail (le-div-iff-mul-le {x = most} {y = e .tokens + s (e .head) * e .consume} (drawn .sound .produce d l) .1 (rw head (omega (arith, ap (λ (x : ℕ). g .actors * max-tokens * x) (repeats .repetition .balanced .equal d l)))))
+module _ (g : Graph) (zeros : ℕ) (q : List ℕ) (s : ℕ → ℕ) (drawn : Drawn g) (repeats : Repeats g q) (h : Highest (g .actors) zeros (vector q) s) where
+  -- The first vector is above every skip.
+  pub falling-start : Reached g → Unskipped g zeros → Falling g zeros s
+  falling-start reached u =
+      let k = skips-exist g (drawn .sound) reached in
+      record {
+        above = λ x a v l. ⊎-elim
+            (λ z. omega (arith, k .1 .greatest x a v l, skips-bounded g (vector q) (k .0) max-tokens (drawn .sound) reached (repeats .repetition .balanced) (drawn .tokens) (k .1) v l, h .high v l z))
+            (λ o. omega (arith, u .none v o x a))
+            (has-bit zeros v);
+        output = h .none (g .output) (drawn .sound .output) (u .output);
+        none = h .none;
+        bound = λ v l. ⊎-elim (λ z. omega (arith, h .high v l z, mul-le-mul (drawn .actors) (repeats .bound v l))) (λ o. omega (arith, h .none v l o)) (has-bit zeros v);
+      }
 
--- A walk along the channels into h.
-pub record Lowering (g : Graph) (h at : ℕ) (more : Bool) (before flags now ready : List ℕ) : Type 0 where
-  pub same-length : length now ≡ length before
-  pub flags-length : length ready ≡ length flags
-  pub falling : Falling g (vector now)
-  pub less : sumTo (vector now) (g .actors) + cond more 1 0 ≤ sumTo (vector before) (g .actors)
-  pub still : more ≡ false → ready ≡ flags
-  pub others : (d : ℕ) → g .channel d .head ≢ h → Watched g (vector now) (vector ready) d
-  pub walked : Walked (λ d. g .channel d .head) h (g .channels) at (Watched g (vector now) (vector ready))
+  -- In the first vector every channel is met but those into actors at 0, since its rates balance.
+  pub watched-start : (d : ℕ) → Watched g s (has zeros) d
+  unfolding allowed
+  watched-start d l z =
+      let e = g .channel d in
+      let most = g .actors * max-tokens * vector q (e .tail) in
+      let tail : s (e .tail) ≤ most = ⊎-elim (λ z. omega (arith, h .high (e .tail) (drawn .sound .tail d l) z)) (λ o. omega (arith, h .none (e .tail) (drawn .sound .tail d l) o)) (has-bit zeros (e .tail)) in
+      let head : s (e .head) ≡ g .actors * max-tokens * vector q (e .head) = h .high (e .head) (drawn .sound .head d l) z in
+      le-trans tail (le-div-iff-mul-le {x = most} {y = e .tokens + s (e .head) * e .consume} (drawn .sound .produce d l) .1 (rw head (omega (arith, ap (λ (x : ℕ). g .actors * max-tokens * x) (repeats .repetition .balanced .equal d l)))))
 
--- Before the first of them.
-pub lowering-start : {g : Graph} {h at : ℕ} {s ready : List ℕ} → Falling g (vector s) → ((d : ℕ) → g .channel d .head ≢ h → Watched g (vector s) (vector ready) d)
-    → Chain (λ d. g .channel d .head) h (g .channels) at → Lowering g h at false s ready s ready
-lowering-start f w chain = record {
-  same-length = refl;
-  flags-length = refl;
-  falling = f;
-  less = omega arith;
-  still = λ e. refl;
-  others = w;
-  walked = walked-start _ chain w;
+-- Where all actors are at 0 the skips stand there.
+pub zero-skips : {g : Graph} {zeros : ℕ} {s : ℕ → ℕ} → Drawn g → Falling g zeros s → Covers zeros (g .actors) → Skips g s
+zero-skips {g} {zeros} {s} drawn f all = settled-skips g s (f .above) record {
+  output = f .output;
+  channel = λ d l. let t = g .channel d .tail in rw (f .none t (drawn .sound .tail d l) (all t (drawn .sound .tail d l))) zero-le;
 }
 
--- An entry that falls leaves a channel met or its head ready.
-watched-lower : (g : Graph) (s ready : ℕ → ℕ) (tail most d : ℕ) → (d < g .channels → ready (g .channel d .head) ≡ 0 → put s tail most (g .channel d .tail) ≤ allowed (g .channel d) (s (g .channel d .head))) → Watched g (put s tail most) (put ready tail 1) d
-watched-lower g s ready tail most d m l z =
-    let head = g .channel d .head in
-    ⊎-elim
-    (λ e. absurd (omega (arith, put-same ready tail 1, ap (put ready tail 1) e)))
-    (λ n. rw (put-other s tail most head n) (m l (omega (arith, put-other ready tail 1 head n))))
-    (eq-or-ne head tail)
+-- A walk along the channels into h: those in the set `fell` have fallen, and the others are as they were.
+pub record Lowering (g : Graph) (zeros h at fell : ℕ) (before now : List ℕ) : Type 0 where
+  pub same-length : length now ≡ length before
+  pub falling : Falling g zeros (vector now)
+  pub actors : Below fell (g .actors)
+  pub below : (v : ℕ) → vector now v ≤ vector before v
+  pub kept : (v : ℕ) → has fell v ≡ 0 → vector now v ≡ vector before v
+  pub sum : sumTo (vector now) (g .actors) ≤ sumTo (vector before) (g .actors)
+  pub less : 0 < fell → sumTo (vector now) (g .actors) < sumTo (vector before) (g .actors)
+  pub still : fell ≡ 0 → now ≡ before
+  pub walked : Walked (λ d. g .channel d .head) h (g .channels) at (λ d. g .channel d .head ≡ h → has fell h ≡ 0 → Meets g (vector now) d)
 
-module _ {g : Graph} {n c tail head : ℕ} (ends : Ends g n c tail head) {at : ℕ} {more : Bool} {before flags now ready : List ℕ} (p : Lowering g head at more before flags now ready) where
+-- Before the first of them.
+pub lowering-start : {g : Graph} {zeros h at : ℕ} {s : List ℕ} → Falling g zeros (vector s) → Chain (λ d. g .channel d .head) h (g .channels) at → Lowering g zeros h at 0 s s
+lowering-start f chain = record {
+  same-length = refl;
+  falling = f;
+  actors = λ v o. absurd (omega (arith, has-none v));
+  below = λ v. le-refl _;
+  kept = λ v z. refl;
+  sum = le-refl _;
+  less = λ l. absurd (omega arith);
+  still = λ e. refl;
+  walked = walked-start _ chain (λ d n e. absurd (n e));
+}
+
+-- An entry that falls leaves every channel met that is not into it.
+meets-lower : (g : Graph) (s : ℕ → ℕ) (tail most d : ℕ) → most ≤ s tail → g .channel d .head ≢ tail → Meets g s d → Meets g (put s tail most) d
+meets-lower g s tail most d l n m =
+    rw (put-other s tail most (g .channel d .head) n) (le-trans (put-keeps (λ w n. n ≤ s w) s tail most l (g .channel d .tail) (le-refl _)) m)
+
+module _ {g : Graph} {n c tail head : ℕ} (ends : Ends g n c tail head) {zeros at fell : ℕ} {before now : List ℕ} (p : Lowering g zeros head at fell before now) where
   -- What the channel allows is worked out in 64 bits.
   pub lowering-fits : Drawn g → g .channel c .tokens + getD now head 0 * g .channel c .consume < 2 ^ 64
   lowering-fits drawn =
@@ -108,23 +122,25 @@ module _ {g : Graph} {n c tail head : ℕ} (ends : Ends g n c tail head) {at : �
       omega (arith, mul-le-mul (p .falling .bound tail a) (drawn .produce c (ends .channel)))
 
   -- A channel that is met lowers nothing.
-  pub lowering-met : {next : ℕ} → at ≡ c + 1 → Chain (λ d. g .channel d .head) head c next → ¬ (allowed (g .channel c) (getD now head 0) < getD now tail 0) → Lowering g head next more before flags now ready
+  pub lowering-met : {next : ℕ} → at ≡ c + 1 → Chain (λ d. g .channel d .head) head c next → ¬ (allowed (g .channel c) (getD now head 0) < getD now tail 0) → Lowering g zeros head next fell before now
   lowering-met here chain h =
       let most : getD now tail 0 ≤ allowed (g .channel c) (getD now head 0) = ⊎-elim (λ l. absurd (h l)) (λ m. m) (lt-or-ge (allowed (g .channel c) (getD now head 0)) (getD now tail 0)) in
       record {
         same-length = p .same-length;
-        flags-length = p .flags-length;
         falling = p .falling;
+        actors = p .actors;
+        below = p .below;
+        kept = p .kept;
+        sum = p .sum;
         less = p .less;
         still = p .still;
-        others = p .others;
-        walked = walked-turn _ (p .walked) here chain (λ d l. p .others d)
-            (λ l z. subst₂ (λ v w. getD now v 0 ≤ allowed (g .channel c) (getD now w 0)) (sym (ends .tail)) (sym (ends .head)) most)
+        walked = walked-turn _ (p .walked) here chain (λ d l n e. absurd (n e))
+            (λ e z. subst₂ (λ v w. getD now v 0 ≤ allowed (g .channel c) (getD now w 0)) (sym (ends .tail)) (sym (ends .head)) most)
             (λ d l w. w);
       }
 
   module _ (most : ℕ) (e : most ≡ allowed (g .channel c) (getD now head 0)) (h : allowed (g .channel c) (getD now head 0) < getD now tail 0) where
-    falls : Falling g (put (vector now) tail most)
+    falls : Falling g zeros (put (vector now) tail most)
     falls =
         let f = p .falling in
         let a : tail < g .actors = rw (← ends .tail) (ends .sound .tail c (ends .channel)) in
@@ -133,36 +149,76 @@ module _ {g : Graph} {n c tail head : ℕ} (ends : Ends g n c tail head) {at : �
         record {
           above = λ x k w m. put-keeps (λ w n. x w ≤ n) (vector now) tail most (subst₂ (λ v m. x v ≤ m) (ends .tail) (sym e) (relax-law g x c (getD now head 0) k (ends .channel) (rw (ends .head) (f .above x k head b)))) w (f .above x k w m);
           output = omega (arith, put-keeps (λ w n. n ≤ vector now w) (vector now) tail most l (g .output) (le-refl _), f .output);
+          none = λ w m o. omega (arith, put-keeps (λ w n. n ≤ vector now w) (vector now) tail most l w (le-refl _), f .none w m o);
           bound = λ w m. put-keeps (λ w n. n ≤ max-skip) (vector now) tail most (le-trans l (f .bound tail a)) w (f .bound w m);
         }
 
-    again : (d : ℕ) → Watched g (vector now) (vector ready) d → Watched g (put (vector now) tail most) (put (vector ready) tail 1) d
-    again d w = watched-lower g (vector now) (vector ready) tail most d (λ l z. le-trans (put-keeps (λ w n. n ≤ vector now w) (vector now) tail most (omega arith) (g .channel d .tail) (le-refl _)) (w l z))
+    module _ {fell' : ℕ} (fallen : Put fell tail (max (has fell tail) 1) fell') where
+      -- Who is not among those that have fallen is not the tail, and was not among them.
+      other : (v : ℕ) → has fell' v ≡ 0 → v ≢ tail
+      other v z i = omega (arith, fallen .here, ap (has fell') i)
 
-    this : Watched g (put (vector now) tail most) (put (vector ready) tail 1) c
-    this = watched-lower g (vector now) (vector ready) tail most c (λ l z. subst₂ (λ v w. put (vector now) tail most v ≤ allowed (g .channel c) (vector now w)) (sym (ends .tail)) (sym (ends .head)) (omega (arith, put-same (vector now) tail most)))
+      was : (v : ℕ) → has fell' v ≡ 0 → has fell v ≡ 0
+      was v z = sym (fallen .there v (other v z)) ∙ z
 
-    -- A channel that is not met: its tail is lowered to what it allows, and is ready.
-    pub lowering-lower : {next : ℕ} → at ≡ c + 1 → Chain (λ d. g .channel d .head) head c next → n ≤ length before → n ≤ length flags → Lowering g head next true before flags (set now tail most) (set ready tail 1)
-    lowering-lower here chain room flagged =
-        let a : tail < g .actors = rw (← ends .tail) (ends .sound .tail c (ends .channel)) in
-        let i = vector-set now tail most (omega (arith, ends .near-below, p .same-length)) in
-        let j = vector-set ready tail 1 (omega (arith, ends .near-below, p .flags-length)) in
-        let W : (d : ℕ) → Watched g (put (vector now) tail most) (put (vector ready) tail 1) d → Watched g (vector (set now tail most)) (vector (set ready tail 1)) d =
-        λ d. subst₂ (λ s r. Watched g s r d) (sym i) (sym j) in
-        record {
-          same-length = simp length-set (p .same-length);
-          flags-length = simp length-set (p .flags-length);
-          falling = subst⁻¹ (Falling g) i falls;
-          less = subst⁻¹ (λ s. sumTo s (g .actors) + 1 ≤ sumTo (vector before) (g .actors)) i (omega (arith, p .less, sum-lower (vector now) tail most (g .actors) a (omega arith)));
-          still = λ e. absurd (true≢false e);
-          others = λ d k. W d (again d (p .others d k));
-          walked = walked-turn _ (p .walked) here chain (λ d l k. W d (again d (p .others d k))) (W c this) (λ d l w. W d (again d w));
-        }
+      this : g .channel c .head ≡ head → has fell' head ≡ 0 → Meets g (put (vector now) tail most) c
+      this i z =
+          subst₂ (λ v w. put (vector now) tail most v ≤ allowed (g .channel c) (put (vector now) tail most w)) (sym (ends .tail)) (sym i)
+          (rw (put-same (vector now) tail most, put-other (vector now) tail most head (other head z)) (omega arith))
+
+      -- A channel that is not met: its tail is lowered to what it allows, and has fallen.
+      pub lowering-lower : {next : ℕ} → at ≡ c + 1 → Chain (λ d. g .channel d .head) head c next → n ≤ length before → Lowering g zeros head next fell' before (set now tail most)
+      lowering-lower here chain room =
+          let a : tail < g .actors = rw (← ends .tail) (ends .sound .tail c (ends .channel)) in
+          let i = vector-set now tail most (omega (arith, ends .near-below, p .same-length)) in
+          let less : sumTo (vector (set now tail most)) (g .actors) < sumTo (vector before) (g .actors) =
+          subst⁻¹ (λ s. sumTo s (g .actors) < sumTo (vector before) (g .actors)) i (omega (arith, p .sum, sum-lower (vector now) tail most (g .actors) a (omega arith))) in
+          record {
+            same-length = simp length-set (p .same-length);
+            falling = subst⁻¹ (Falling g zeros) i falls;
+            actors = λ v o. ⊎-elim (λ (q : v ≡ tail). rw q a) (λ d. p .actors v (sym (fallen .there v d) ∙ o)) (eq-or-ne v tail);
+            below = λ v. subst⁻¹ (λ s. s v ≤ vector before v) i (put-keeps (λ w n. n ≤ vector before w) (vector now) tail most (omega (arith, p .below tail)) v (p .below v));
+            kept = λ v z. ap (λ (s : ℕ → ℕ). s v) i ∙ put-other (vector now) tail most v (other v z) ∙ p .kept v (was v z);
+            sum = omega arith;
+            less = λ l. less;
+            still = λ z. absurd (omega (arith, fallen .here, ap (λ (x : ℕ). has x tail) z, has-none tail));
+            walked = walked-turn _ (p .walked) here chain
+                (λ d l n e. absurd (n e))
+                (λ q z. subst⁻¹ (λ s. Meets g s c) i (this q z))
+                (λ d l w q z. subst⁻¹ (λ s. Meets g s d) i (meets-lower g (vector now) tail most d (omega arith) (λ t. other head z (sym q ∙ t)) (w q (was head z))));
+          }
 
 -- At the end of the list.
-pub lowering-end : {g : Graph} {h at : ℕ} {more : Bool} {before flags now ready : List ℕ} → at ≤ 0 → Lowering g h at more before flags now ready → Lowered g more (ready ≡ flags) before now ready
-lowering-end l p = record { falling = p .falling; less = p .less; watched = λ d m. p .walked .passed d (omega arith) m m; still = p .still }
+pub lowering-end : {g : Graph} {zeros h at fell : ℕ} {before now : List ℕ} → at ≤ 0 → Lowering g zeros h at fell before now → Lowered g zeros h fell before now
+lowering-end {g} {zeros} {h} {at} {fell} {before} {now} l p = record {
+  falling = p .falling;
+  actors = p .actors;
+  less = p .less;
+  still = p .still;
+  watched = λ ready w d m z.
+      let head = g .channel d .head in ⊎-elim
+      (λ e. p .walked .passed d (omega arith) m e (omega (arith, ap (has fell) e)))
+      (λ n. rw (p .kept head (omega arith)) (le-trans (p .below (g .channel d .tail)) (w d n m (omega arith))))
+      (eq-or-ne head h);
+}
+
+-- Where all tails of the channels into h are in the set at 0 none can fall.
+pub lowered-none : {g : Graph} {zeros h left : ℕ} {s words between : List ℕ} → Drawn g → Falling g zeros (vector s) → Words g words between
+    → ((v : ℕ) → has left v ≡ has (word words 1 h) v - has zeros v) → left ≡ 0 → Lowered g zeros h 0 s s
+lowered-none {g} {zeros} {h} {left} {s} {words} drawn f drawing minus none = record {
+  falling = f;
+  actors = λ v o. absurd (omega (arith, has-none v));
+  less = λ l. absurd (omega arith);
+  still = λ e. refl;
+  watched = λ ready w d m z.
+      let t = g .channel d .tail in ⊎-elim
+      (λ e.
+      let in-tails : has (word words 1 h) t ≡ 1 = rw e at (drawing .tails .holds d m refl) in
+      let in-zero : has zeros t ≡ 1 = omega (arith, minus t, ap (λ (x : ℕ). has x t) none, has-none t, has-small zeros t) in
+      rw (f .none t (drawn .sound .tail d m) in-zero) zero-le)
+      (λ n. w d n m (omega arith))
+      (eq-or-ne (g .channel d .head) h);
+}
 
 -- The test without a division.
 pub lowers-says : (e : Channel) (skip from most asked : ℕ) → 0 < e .produce → most ≡ e .tokens + skip * e .consume → asked ≡ from * e .produce → Decides (ltb most asked) (allowed e skip < from)
@@ -171,70 +227,48 @@ lowers-says e skip from most asked p i j =
     let same = div-lt-iff-lt-mul {k = e .produce} {x = e .tokens + skip * e .consume} {y = from} p in
     decides-same (ltb most asked) (λ h. same .1 (omega arith)) (λ h. omega (arith, same .0 h)) (decides-less most asked)
 
--- A pass over the actors from h on: if nothing fell, none of them is ready.
-pub record Passing (g : Graph) (h : ℕ) (more : Bool) (before flags now ready : List ℕ) : Type 0 where
-  pub same-length : length now ≡ length before
-  pub flags-length : length ready ≡ length flags
-  pub lowered : Lowered g more ((v : ℕ) → h ≤ v → v < g .actors → getD ready v 0 ≡ 0) before now ready
+-- Actors of `todo` have fallen since the channels into them were last looked at; every other channel is met.
+pub record Settling (g : Graph) (zeros todo : ℕ) (s : List ℕ) : Type 0 where
+  pub falling : Falling g zeros (vector s)
+  pub watched : (d : ℕ) → Watched g (vector s) (has todo) d
+  pub actors : Below todo (g .actors)
 
--- Past the last actor.
-pub passing-start : (g : Graph) (s ready : List ℕ) → Falling g (vector s) → ((d : ℕ) → Watched g (vector s) (vector ready) d) → Passing g (g .actors) false s ready s ready
-passing-start g s ready f w = record {
-  same-length = refl;
-  flags-length = refl;
-  lowered = record { falling = f; less = omega arith; watched = w; still = λ e v k l. absurd (omega arith) };
-}
+-- The channels into one of them are looked at.
+pub record Looks (g : Graph) (zeros h todo less fell todo' : ℕ) (before after : List ℕ) : Type 0 where
+  pub one : has todo h ≡ 1
+  pub off : Put todo h 0 less
+  pub lowered : Lowered g zeros h fell before after
+  pub rest : (v : ℕ) → has todo' v ≡ max (has less v) (has fell v)
 
-module _ {g : Graph} {h k : ℕ} {more : Bool} {before flags now ready : List ℕ} (p : Passing g k more before flags now ready) (here : k ≤ h + 1) where
-  -- An actor that is not ready.
-  pub passing-by : getD ready h 0 ≡ 0 → Passing g h more before flags now ready
-  passing-by z = record {
-    same-length = p .same-length;
-    flags-length = p .flags-length;
-    lowered = record {
-      falling = p .lowered .falling;
-      less = p .lowered .less;
-      watched = p .lowered .watched;
-      still = λ e v l m. ⊎-elim (λ i. rw i z) (λ d. p .lowered .still e v (omega (arith, d)) m) (eq-or-ne v h);
-    };
+module _ {g : Graph} {zeros h todo less fell todo' : ℕ} {before after : List ℕ} (p : Settling g zeros todo before) (a : Looks g zeros h todo less fell todo' before after) where
+  -- Those that fell are to be looked at.
+  pub settling-turn : Settling g zeros todo' after
+  settling-turn = record {
+    falling = a .lowered .falling;
+    watched = λ d l z. a .lowered .watched (has less) (λ d n l z. p .watched d l (sym (a .off .there (g .channel d .head) n) ∙ z)) d l (sym (a .rest (g .channel d .head)) ∙ z);
+    actors = λ v o. ⊎-elim
+        (λ z. ⊎-elim
+        (λ (e : v ≡ h). absurd (omega (arith, a .rest v, ap (has less) e, a .off .here)))
+        (λ n. p .actors v (omega (arith, a .rest v, a .off .there v n)))
+        (eq-or-ne v h))
+        (λ o. a .lowered .actors v o)
+        (has-bit fell v);
   }
 
-  -- It is no longer ready while the channels into it are looked at.
-  pub passing-watched : (d : ℕ) → g .channel d .head ≢ h → Watched g (vector now) (vector (set ready h 0)) d
-  passing-watched d n l z = p .lowered .watched d l (omega (arith, getD-set-other ready h (g .channel d .head) 0 0 n))
+  -- An entry fell, or there are fewer to be looked at.
+  pub settling-less : todo' < 2 ^ 64 → sumTo (vector after) (g .actors) * 2 ^ 64 + todo' < sumTo (vector before) (g .actors) * 2 ^ 64 + todo
+  settling-less l =
+      ⊎-elim
+      (λ z.
+      let same : todo' ≡ less = has-same (λ v. omega (arith, a .rest v, ap (λ (x : ℕ). has x v) z, has-none v)) in
+      let sums : sumTo (vector after) (g .actors) ≡ sumTo (vector before) (g .actors) = ap (λ (s : List ℕ). sumTo (vector s) (g .actors)) (a .lowered .still z) in
+      omega (arith, put-less (a .off) (a .one)))
+      (λ k. omega (arith, a .lowered .less k))
+      (eq-zero-or-pos fell)
 
-  module _ (room : h < length ready) {fell : Bool} {after left : List ℕ} (low : Lowered g fell (left ≡ set ready h 0) now after left) (same : length after ≡ length now) (kept : length left ≡ length (set ready h 0)) where
-    -- A channel into it lowered its tail.
-    pub passing-lower : fell ≡ true → Passing g h true before flags after left
-    passing-lower e =
-        let less : sumTo (vector after) (g .actors) + cond true 1 0 ≤ sumTo (vector now) (g .actors) = subst (λ b. sumTo (vector after) (g .actors) + cond b 1 0 ≤ sumTo (vector now) (g .actors)) e (low .less) in
-        record {
-          same-length = same ∙ p .same-length;
-          flags-length = kept ∙ length-set ready h 0 ∙ p .flags-length;
-          lowered = record { falling = low .falling; less = omega (arith, less, p .lowered .less); watched = low .watched; still = λ e. absurd (true≢false e) };
-        }
-
-    -- None did.
-    pub passing-met : fell ≡ false → Passing g h more before flags after left
-    passing-met e = record {
-      same-length = same ∙ p .same-length;
-      flags-length = kept ∙ length-set ready h 0 ∙ p .flags-length;
-      lowered = record {
-        falling = low .falling;
-        less = omega (arith, low .less, p .lowered .less);
-        watched = low .watched;
-        still = λ i v l m. rw (low .still e) (stored (λ v n. n ≡ 0) ready h 0 room refl v (λ d. p .lowered .still i v (omega (arith, d)) m));
-      };
-    }
-
--- After the first actor. When a pass lowers nothing the skips stand there.
-pub passing-end : {g : Graph} {h : ℕ} {more : Bool} {before flags now ready : List ℕ} → Drawn g → h ≤ 0 → Passing g h more before flags now ready → Lowered g more (Skips g (vector now)) before now ready
-passing-end {g} {now = now} drawn l p = record {
-  falling = p .lowered .falling;
-  less = p .lowered .less;
-  watched = p .lowered .watched;
-  still = λ e. settled-skips g (vector now) (p .lowered .falling .above) record {
-    output = p .lowered .falling .output;
-    channel = λ d m. p .lowered .watched d m (p .lowered .still e (g .channel d .head) (omega arith) (drawn .sound .head d m));
-  };
+-- Nobody is left to be looked at: the skips stand there.
+pub settling-end : {g : Graph} {zeros todo : ℕ} {s : List ℕ} → Settling g zeros todo s → todo ≡ 0 → Skips g (vector s)
+settling-end {g} {zeros} {todo} {s} p z = settled-skips g (vector s) (p .falling .above) record {
+  output = p .falling .output;
+  channel = λ d l. p .watched d l (ap (λ (x : ℕ). has x (g .channel d .head)) z ∙ has-none (g .channel d .head));
 }

@@ -9,7 +9,7 @@ use Rattle.sdf.specs.Balance.{Balances, Once}
 use Rattle.sdf.specs.Skip.{Skips}
 use Rattle.graph.specs.declared.GraphAnswer.{GraphAnswer}
 use Rattle.graph.specs.declared.GraphAnswer.the-variants.{Fine, Reach, Balance, NotOnce, Deadlock, Restless}
-use Rattle.graph.specs.Flat.{vector}
+use Rattle.trial.specs.Flat.{vector}
 use Rattle.graph.specs.Repetition.{Repeats}
 
 abbrev pub Judged : Graph → GraphAnswer → List ℕ → List ℕ → Type 0

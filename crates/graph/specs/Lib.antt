@@ -1,10 +1,4 @@
-pub mod Flat
-pub mod Decides
-pub mod Reach
-pub mod Read
+pub mod Words
 pub mod Repetition
-pub mod Links
-pub mod Trial
-pub mod Rest
 pub mod Skip
 pub mod Judged

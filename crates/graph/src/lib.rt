@@ -1,21 +1,21 @@
 // The numbers of one graph: reach, repetition numbers, trial run, at rest, skips, fewest firings (01, answers 7 to 11). It knows
-// no sheet, and takes up to 128 actors and 256 channels.
-ghost use Prim.Native.Nat.{_+_, _/_, _<_, _≤_};
+// no sheet, and takes up to 64 actors and 256 channels: a set of actors is the bits of one word.
+ghost use mathlib.Core.Path.{_≡_};
+ghost use Prim.Native.Nat.{_+_, _*_, _/_, _<_, _≤_};
 ghost use lib.ListN.{length};
-ghost use Rattle.graph.specs.Flat.{graph-of, Drawn};
-ghost use Rattle.graph.specs.Links.{heads, tails, Linked};
+ghost use Rattle.sets.specs.Decides.{Decides};
+ghost use Rattle.sdf.specs.Order.{AtRest};
+ghost use Rattle.trial.specs.Flat.{graph-of, Drawn};
+ghost use Rattle.graph.specs.Words.{Words, Kept-back, Unskipped};
 ghost use Rattle.graph.specs.Repetition.{Balance-answer};
 ghost use Rattle.graph.specs.Judged.{Judged};
-use links::link;
 use repetition::Numbering;
+use sets::covers;
+use sets::with;
 
-mod flat; // the flat list of channels
-mod channel; // one channel of it
-mod links; // the channels at each actor
+mod draw; // who leads to whom
 pub mod reach; // 01, answer 7
 pub mod repetition; // 01, answers 8 and 9
-pub mod trial; // 01, answer 10
-pub mod rest; // 01, answer 11
 pub mod skip; // skips and fewest firings
 
 // 01, answers 7 to 11, or none of them.
@@ -29,38 +29,58 @@ pub enum GraphAnswer {
 }
 
 // Answers 7 and 8, or the repetition numbers in q. That the input reaches every actor comes with the numbers, and is looked at for
-// itself only where there are none.
+// itself only where there are none. `zero` holds actors that reach the output; `met` is lent to note an order in.
 fn balance(
     actors: usize,
     input: usize,
     output: usize,
     channels: &[u32],
-    into: &[u64],
-    out: &[u64],
+    words: &[u64],
+    between: &[u8],
+    zero: u64,
     q: &mut [u64],
-    marks: &mut [u64],
+    awaits: &mut [u64],
+    met: &mut [u64],
 ) -> Numbering
-    requires { ⌜ (Drawn (graph-of actors input output (now channels))) × (actors ≤ length (now q)) × (actors ≤ length (now marks)) ⌝ }
-    requires { ⌜ Linked (heads (now channels)) actors (length (now channels) / 5) (now into) × Linked (tails (now channels)) actors (length (now channels) / 5) (now out) ⌝ }
-    ensures { λ r. ⌜ Balance-answer (graph-of actors input output (now (channels .entry))) r (now (q .exit)) ⌝ }
+    requires { ⌜ Drawn (graph-of actors input output (now channels)) × Words (graph-of actors input output (now channels)) (now words) (now between) × Unskipped (graph-of actors input output (now channels)) zero ⌝ }
+    requires { ⌜ (actors ≤ length (now q)) × (actors * actors ≤ length (now between)) × (actors ≤ length (now awaits)) ⌝ }
+    ensures { λ r. ⌜ Balance-answer (graph-of actors input output (now (channels .entry))) r (now (q .exit)) (now (awaits .exit)) ⌝ }
 {
-    if !reach::reaches(actors, input, output, channels, into, marks) {
+    if !reach::to_output(actors, input, output, channels, words, between, zero) {
         return Numbering::Unreached;
     }
-    let found = repetition::repetition(actors, input, output, channels, out, q, marks);
+    let found = repetition::repetition(
+        actors,
+        input,
+        output,
+        channels,
+        words,
+        between,
+        q,
+        awaits,
+        met,
+    );
     match found {
         Numbering::Found => return Numbering::Found,
         Numbering::Unreached => return Numbering::Unreached,
         Numbering::Unbalanced => {}
     }
-    if !reach::all_from(actors, input, output, channels, 0, input, marks) {
+    if !reach::from_input(actors, input, output, channels, words, between) {
         return Numbering::Unreached;
     }
     Numbering::Unbalanced
 }
 
-// The first of answers 7 to 11 that applies. Without one the repetition numbers stand in q and the skips in s. The last six
-// slices are lent to work in.
+// 01, answer 11: whether before anything arrives no actor but the input may fire. `back` holds those that a channel keeps from it.
+fn at_rest(actors: usize, input: usize, output: usize, channels: &[u32], back: u64) -> bool
+    requires { ⌜ Drawn (graph-of actors input output (now channels)) × Kept-back (graph-of actors input output (now channels)) back ⌝ }
+    ensures { λ r. ⌜ Decides r (AtRest (graph-of actors input output (now (channels .entry)))) ⌝ }
+{
+    covers(with(back, input, true), actors)
+}
+
+// The first of answers 7 to 11 that applies. Without one the repetition numbers stand in q and the skips in s. The slices after these
+// are lent to work in: `words` three for each actor, `between` one for each pair of them.
 pub fn numbers(
     actors: usize,
     input: usize,
@@ -68,6 +88,10 @@ pub fn numbers(
     channels: &[u32],
     q: &mut [u64],
     s: &mut [u64],
+    words: &mut [u64],
+    between: &mut [u8],
+    awaits: &mut [u64],
+    kept: &mut [u32],
     tokens: &mut [u64],
     left: &mut [u64],
     ready: &mut [u64],
@@ -75,14 +99,26 @@ pub fn numbers(
     out: &mut [u64],
     hints: &mut [u64],
 ) -> GraphAnswer
-    requires { ⌜ Drawn (graph-of actors input output (now channels)) ⌝ }
-    requires { ⌜ (actors ≤ length (now q)) × (actors ≤ length (now s)) × (length (now channels) / 5 ≤ length (now tokens)) × (actors ≤ length (now left)) × (actors ≤ length (now ready)) ⌝ }
+    requires { ⌜ Drawn (graph-of actors input output (now channels)) × (length (now words) ≡ 3 * actors) × (actors * actors ≤ length (now between)) ⌝ }
+    requires { ⌜ (actors ≤ length (now q)) × (actors ≤ length (now s)) × (actors ≤ length (now awaits)) × (length (now channels) / 5 ≤ length (now kept) / 5) ⌝ }
+    requires { ⌜ (length (now channels) / 5 ≤ length (now tokens)) × (actors ≤ length (now left)) × (actors ≤ length (now ready)) ⌝ }
     requires { ⌜ (actors + length (now channels) / 5 ≤ length (now into)) × (actors + length (now channels) / 5 ≤ length (now out)) × (0 < length (now hints)) ⌝ }
     ensures { λ r. ⌜ Judged (graph-of actors input output (now (channels .entry))) r (now (q .exit)) (now (s .exit)) ⌝ }
 {
-    link(actors, channels, 1, into);
-    link(actors, channels, 0, out);
-    let found = balance(actors, input, output, channels, into, out, q, ready);
+    let back = draw::draw(actors, input, output, channels, words, between);
+    let zero = reach::unskipped(actors, input, output, channels, words, between);
+    let found = balance(
+        actors,
+        input,
+        output,
+        channels,
+        words,
+        between,
+        zero,
+        q,
+        awaits,
+        left,
+    );
     match found {
         Numbering::Unreached => return GraphAnswer::Reach,
         Numbering::Unbalanced => return GraphAnswer::Balance,
@@ -94,12 +130,15 @@ pub fn numbers(
     if q[output] != 1 {
         return GraphAnswer::NotOnce;
     }
-    if !trial::lives(
+    if !trial::knot::lives(
         actors,
         input,
         output,
         channels,
         q,
+        awaits,
+        kept,
+        s,
         tokens,
         left,
         ready,
@@ -109,9 +148,20 @@ pub fn numbers(
     ) {
         return GraphAnswer::Deadlock;
     }
-    if !rest::at_rest(actors, input, output, channels, ready) {
+    if !at_rest(actors, input, output, channels, back) {
         return GraphAnswer::Restless;
     }
-    skip::skips(actors, input, output, channels, into, q, s, ready);
+    skip::skips(
+        actors,
+        input,
+        output,
+        channels,
+        words,
+        between,
+        zero,
+        into,
+        q,
+        s,
+    );
     GraphAnswer::Fine
 }

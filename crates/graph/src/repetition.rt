@@ -2,27 +2,32 @@
 // so far the least multiples that leave its own whole; so every balanced vector is a multiple of them, and no number ever
 // has to be corrected.
 ghost use mathlib.Core.Path.{_≡_};
+ghost use mathlib.Core.Bool.{true};
 ghost use Prim.Native.Nat.{ℕ, _*_, _/_, _%_, _<_, _≤_};
 ghost use lib.ListN.{length};
 ghost use Rattle.units.specs.Bounds.{max-rate, max-repetition};
 ghost use Rattle.sdf.specs.Balance.{AtMost};
-ghost use Rattle.graph.specs.Flat.{graph-of, vector, Drawn};
-ghost use Rattle.graph.specs.Read.{Read, seen};
-ghost use Rattle.graph.specs.Decides.{Decides};
-ghost use Rattle.graph.specs.Links.{tails, Linked};
-ghost use Rattle.graph.specs.Repetition.{LeastFactor, Scale-answer, Grown, Looked, Grows, Passes, Equal, Repetition-answer};
-use super::channel::Channel;
-use super::reach::all_marked;
-use super::reach::clear;
+ghost use Rattle.trial.specs.Flat.{graph-of, vector, Drawn};
+ghost use Rattle.trial.specs.Read.{Read, seen};
+ghost use Rattle.sets.specs.Decides.{Decides};
+ghost use Rattle.trial.specs.Links.{heads, tails};
+ghost use Rattle.trial.specs.Knot.{enough, Awaits};
+ghost use Rattle.graph.specs.Words.{Words};
+ghost use Rattle.graph.specs.Repetition.{LeastFactor, Scale-answer, Grown, Extends, Grow-answer, Equal, Repetition-answer};
+use super::draw::HEADS;
+use super::draw::TAILS;
+use sets::clear;
+use sets::common;
+use sets::covers;
+use sets::joined;
+use sets::least;
+use sets::mark;
+use sets::minus;
+use sets::only;
+use sets::with;
+use trial::channel::Channel;
 use units::Firings;
 use units::Tokens;
-
-// What an attempt to give numbers comes to: none to give, some given, or one past the bound.
-enum Growth {
-    Still,
-    More,
-    Past,
-}
 
 // What the search for the numbers comes to: found, or no balanced vector within the bound, or an actor that the input does not
 // reach.
@@ -96,7 +101,36 @@ fn scale(actors: usize, k: u64, q: &mut [u64]) -> bool
     true
 }
 
-// Channel c: where its tail has a number and its head none, the head gets one and a mark.
+// Channel c, from an actor with a number to one without: all numbers get as large as its head's has to be whole, and its head gets
+// one. False where one would pass the bound.
+fn uneven(
+    actors: usize,
+    input: usize,
+    output: usize,
+    channels: &[u32],
+    c: usize,
+    q: &mut [u64],
+) -> bool
+    requires { ⌜ Drawn (graph-of actors input output (now channels)) × (actors ≤ length (now q)) × Grown (graph-of actors input output (now channels)) (vector (now q)) × (c < length (now channels) / 5) ⌝ }
+    requires { ⌜ (0 < vector (now q) (tails (now channels) c)) × (vector (now q) (heads (now channels) c) ≡ 0) ⌝ }
+    ensures { λ r. ⌜ Extends (graph-of actors input output (now (channels .entry))) c r (now (q .entry)) (now (q .exit)) ⌝ }
+{
+    let e = read(actors, input, output, channels, c);
+    let tail = e.tail;
+    let head = e.head;
+    let k = factor(moved(q[tail], e.produce), e.consume);
+    if !scale(actors, k, q) {
+        return false;
+    }
+    let n = moved(q[tail], e.produce).firings(e.consume).count();
+    if Firings::MAX_REPETITION < n {
+        return false;
+    }
+    q[head] = n;
+    true
+}
+
+// The same, and most often the head's number is whole as it is.
 fn extend(
     actors: usize,
     input: usize,
@@ -104,104 +138,96 @@ fn extend(
     channels: &[u32],
     c: usize,
     q: &mut [u64],
-    marks: &mut [u64],
-) -> Growth
-    requires { ⌜ (Drawn (graph-of actors input output (now channels))) × (actors ≤ length (now q)) × Grown (graph-of actors input output (now channels)) (vector (now q)) × (c < length (now channels) / 5) × (actors ≤ length (now marks)) ⌝ }
-    ensures { λ r. ⌜ Grows (graph-of actors input output (now (channels .entry))) (Looked (graph-of actors input output (now (channels .entry))) (vector (now (q .exit))) (vector (now (marks .exit))) c) r (now (q .entry)) (now (marks .entry)) (now (q .exit)) (now (marks .exit)) ⌝ }
+) -> bool
+    requires { ⌜ Drawn (graph-of actors input output (now channels)) × (actors ≤ length (now q)) × Grown (graph-of actors input output (now channels)) (vector (now q)) × (c < length (now channels) / 5) ⌝ }
+    requires { ⌜ (0 < vector (now q) (tails (now channels) c)) × (vector (now q) (heads (now channels) c) ≡ 0) ⌝ }
+    ensures { λ r. ⌜ Extends (graph-of actors input output (now (channels .entry))) c r (now (q .entry)) (now (q .exit)) ⌝ }
 {
     let e = read(actors, input, output, channels, c);
     let tail = e.tail;
     let head = e.head;
-    if q[tail] == 0 {
-        return Growth::Still;
+    let put = moved(q[tail], e.produce).count();
+    let consume = e.consume.count();
+    let n = put / consume;
+    if n * consume != put {
+        return uneven(actors, input, output, channels, c, q);
     }
-    if q[head] != 0 {
-        return Growth::Still;
-    }
-    let k = factor(moved(q[tail], e.produce), e.consume);
-    if !scale(actors, k, q) {
-        return Growth::Past;
-    }
-    let n = moved(q[tail], e.produce).firings(e.consume).count();
     if Firings::MAX_REPETITION < n {
-        return Growth::Past;
+        return false;
     }
     q[head] = n;
-    marks[head] = 1;
-    Growth::More
+    true
 }
 
-// The channels out of actor v.
+// Actor v, met as number n. Where there is no room it is left out.
+fn note(met: &mut [u64], n: usize, v: usize) -> usize {
+    if n < met.len() {
+        met[n] = v as u64;
+        return n + 1;
+    }
+    n
+}
+
+// Numbers for all actors that the input reaches, from 1 at the input. They come into `met` in the order in which they are met.
 fn grow(
     actors: usize,
     input: usize,
     output: usize,
     channels: &[u32],
-    out: &[u64],
-    v: usize,
+    words: &[u64],
+    between: &[u8],
     q: &mut [u64],
-    marks: &mut [u64],
-) -> Growth
-    requires { ⌜ (Drawn (graph-of actors input output (now channels))) × Linked (tails (now channels)) actors (length (now channels) / 5) (now out) × (v < actors) × (actors ≤ length (now q)) × (actors ≤ length (now marks)) × Grown (graph-of actors input output (now channels)) (vector (now q)) ⌝ }
-    ensures { λ r. ⌜ Grows (graph-of actors input output (now (channels .entry))) ((d : ℕ) → tails (now (channels .entry)) d ≡ v → Looked (graph-of actors input output (now (channels .entry))) (vector (now (q .exit))) (vector (now (marks .exit))) d) r (now (q .entry)) (now (marks .entry)) (now (q .exit)) (now (marks .exit)) ⌝ }
+    met: &mut [u64],
+) -> Numbering
+    requires { ⌜ Drawn (graph-of actors input output (now channels)) × Words (graph-of actors input output (now channels)) (now words) (now between) × (actors ≤ length (now q)) × (actors * actors ≤ length (now between)) ⌝ }
+    ensures { λ r. ⌜ Grow-answer (graph-of actors input output (now (channels .entry))) r (now (q .exit)) ⌝ }
 {
-    let mut more = false;
-    let mut at = out[v];
-    while 0 < at {
-        let c = (at - 1) as usize;
-        at = out[actors + c];
-        let growth = extend(actors, input, output, channels, c, q, marks);
-        match growth {
-            Growth::Past => return Growth::Past,
-            Growth::More => more = true,
-            Growth::Still => {}
+    clear(actors, q);
+    q[input] = 1;
+    let mut known = only(input);
+    let mut todo = minus(words[3 * input + HEADS], known);
+    let mut n = note(met, 0, input);
+    while todo != 0 {
+        let head = least(todo);
+        let tail = least(common(words[3 * head + TAILS], known));
+        let c = between[actors * tail + head] as usize;
+        if !extend(actors, input, output, channels, c, q) {
+            return Numbering::Unbalanced;
         }
+        n = note(met, n, head);
+        known = with(known, head, true);
+        todo = minus(joined(todo, words[3 * head + HEADS]), known);
     }
-    if more {
-        return Growth::More;
+    if covers(known, actors) {
+        return Numbering::Found;
     }
-    Growth::Still
+    Numbering::Unreached
 }
 
-// One pass over the actors that are marked. Channels mostly lead from lower to higher numbers: so from the first to the last.
-fn pass(
+// With so many tokens channel e lets its head fire all of q without its tail.
+fn enough(e: Channel, put: u64) -> u64
+    ensures { λ r. ⌜ ((q : ℕ → ℕ) → put ≡ q (e .tail) * e .produce .n → r ≡ enough (seen e) q) ⌝ }
+{
+    if e.tail == e.head {
+        return e.consume.count();
+    }
+    put
+}
+
+// 01, Balanced: whether on every channel tail's number × produce = head's number × consume. Then each actor's word holds those that it
+// has to wait for.
+fn settle(
     actors: usize,
     input: usize,
     output: usize,
     channels: &[u32],
-    out: &[u64],
-    q: &mut [u64],
-    marks: &mut [u64],
-) -> Growth
-    requires { ⌜ (Drawn (graph-of actors input output (now channels))) × Linked (tails (now channels)) actors (length (now channels) / 5) (now out) × (actors ≤ length (now q)) × (actors ≤ length (now marks)) ⌝ }
-    requires { ⌜ Grown (graph-of actors input output (now channels)) (vector (now q)) × ((d : ℕ) → Looked (graph-of actors input output (now channels)) (vector (now q)) (vector (now marks)) d) ⌝ }
-    ensures { λ r. ⌜ Passes (graph-of actors input output (now (channels .entry))) r (now (q .entry)) (now (q .exit)) (now (marks .exit)) ⌝ }
+    q: &[u64],
+    awaits: &mut [u64],
+) -> bool
+    requires { ⌜ Drawn (graph-of actors input output (now channels)) × (actors ≤ length (now q)) × AtMost (graph-of actors input output (now channels)) (vector (now q)) (λ _. max-repetition) × (actors ≤ length (now awaits)) ⌝ }
+    ensures { λ r. ⌜ Decides r (Equal (graph-of actors input output (now (channels .entry))) (vector (now (q .entry)))) × (r ≡ true → Awaits (graph-of actors input output (now (channels .entry))) (vector (now (q .entry))) (vector (now (awaits .exit)))) ⌝ }
 {
-    let mut more = false;
-    let mut v = 0;
-    while v < actors {
-        if marks[v] != 0 {
-            marks[v] = 0;
-            let growth = grow(actors, input, output, channels, out, v, q, marks);
-            match growth {
-                Growth::Past => return Growth::Past,
-                Growth::More => more = true,
-                Growth::Still => {}
-            }
-        }
-        v += 1;
-    }
-    if more {
-        return Growth::More;
-    }
-    Growth::Still
-}
-
-// 01, Balanced: on every channel tail's number × produce = head's number × consume.
-fn equal(actors: usize, input: usize, output: usize, channels: &[u32], q: &[u64]) -> bool
-    requires { ⌜ (Drawn (graph-of actors input output (now channels))) × (actors ≤ length (now q)) × AtMost (graph-of actors input output (now channels)) (vector (now q)) (λ _. max-repetition) ⌝ }
-    ensures { λ r. ⌜ Decides r (Equal (graph-of actors input output (now (channels .entry))) (vector (now (q .entry)))) ⌝ }
-{
+    clear(actors, awaits);
     let m = channels.len() / 5;
     let mut c = 0;
     while c < m {
@@ -209,42 +235,37 @@ fn equal(actors: usize, input: usize, output: usize, channels: &[u32], q: &[u64]
         let tail = e.tail;
         let head = e.head;
         let put = moved(q[tail], e.produce).count();
-        let taken = moved(q[head], e.consume).count();
-        if put != taken {
+        if put != moved(q[head], e.consume).count() {
             return false;
         }
+        mark(awaits, head, tail, e.tokens.count() < enough(e, put));
         c += 1;
     }
     true
 }
 
-// The repetition numbers, into q. That every actor is reached from the input comes with them. `out` lists the channels by tail;
-// `marks` is lent to work in: a mark says that the channels out of an actor that has a number have not been looked at.
+// The repetition numbers, into q. That the input reaches every actor comes with them, and for whom each actor has to wait.
 pub fn repetition(
     actors: usize,
     input: usize,
     output: usize,
     channels: &[u32],
-    out: &[u64],
+    words: &[u64],
+    between: &[u8],
     q: &mut [u64],
-    marks: &mut [u64],
+    awaits: &mut [u64],
+    met: &mut [u64],
 ) -> Numbering
-    requires { ⌜ (Drawn (graph-of actors input output (now channels))) × Linked (tails (now channels)) actors (length (now channels) / 5) (now out) × (actors ≤ length (now q)) × (actors ≤ length (now marks)) ⌝ }
-    ensures { λ r. ⌜ Repetition-answer (graph-of actors input output (now (channels .entry))) r (now (q .exit)) ⌝ }
+    requires { ⌜ Drawn (graph-of actors input output (now channels)) × Words (graph-of actors input output (now channels)) (now words) (now between) × (actors ≤ length (now q)) × (actors * actors ≤ length (now between)) × (actors ≤ length (now awaits)) ⌝ }
+    ensures { λ r. ⌜ Repetition-answer (graph-of actors input output (now (channels .entry))) r (now (q .exit)) (now (awaits .exit)) ⌝ }
 {
-    clear(actors, q);
-    clear(actors, marks);
-    q[input] = 1;
-    marks[input] = 1;
-    while !all_marked(actors, q) {
-        let growth = pass(actors, input, output, channels, out, q, marks);
-        match growth {
-            Growth::Past => return Numbering::Unbalanced,
-            Growth::Still => return Numbering::Unreached,
-            Growth::More => {}
-        }
+    let grown = grow(actors, input, output, channels, words, between, q, met);
+    match grown {
+        Numbering::Unbalanced => return Numbering::Unbalanced,
+        Numbering::Unreached => return Numbering::Unreached,
+        Numbering::Found => {}
     }
-    if equal(actors, input, output, channels, q) {
+    if settle(actors, input, output, channels, q, awaits) {
         return Numbering::Found;
     }
     Numbering::Unbalanced

@@ -1,20 +1,28 @@
-// 01, Skip numbers: found from above, in one vector. Every actor starts at more than it can skip, the output at 0, and each
-// channel lowers its tail to what it allows until none does. The channels into an actor are looked at again only after its
+// 01, Skip numbers: found from above, in one vector. Every actor starts at more than it can skip, those that cannot skip at 0, and
+// each channel lowers its tail to what it allows until none does. The channels into an actor are looked at again only after its
 // skip fell. And 01, Fewest firings.
 ghost use mathlib.Core.Path.{_≡_};
-ghost use mathlib.Core.Logic.{_≢_};
 ghost use Prim.Native.Nat.{ℕ, _+_, _*_, _-_, _/_, _^_, _<_, _≤_};
 ghost use lib.ListN.{length, getD};
 ghost use Rattle.units.specs.Bounds.{engine-actors, max-tokens, max-repetition};
 ghost use Rattle.sdf.specs.Graph.{Reached};
 ghost use Rattle.sdf.specs.Skip.{Skips, allowed as allows};
-ghost use Rattle.graph.specs.Flat.{channel-at, graph-of, vector, Drawn};
-ghost use Rattle.graph.specs.Decides.{Decides};
+ghost use Rattle.trial.specs.Flat.{channel-at, graph-of, vector, Drawn};
+ghost use Rattle.sets.specs.Decides.{Decides};
 ghost use Rattle.graph.specs.Repetition.{Repeats};
-ghost use Rattle.graph.specs.Links.{heads, Linked};
-ghost use Rattle.graph.specs.Skip.{Highest, Falling, Watched, Lowered};
-use super::flat::number;
-use super::reach::clear;
+ghost use Rattle.trial.specs.Links.{heads, Linked};
+ghost use Rattle.graph.specs.Skip.{Highest, Falling, Lowered};
+ghost use Rattle.graph.specs.Words.{Words, Unskipped};
+use super::draw::TAILS;
+use sets::covers;
+use sets::greatest;
+use sets::has;
+use sets::joined;
+use sets::minus;
+use sets::with;
+use sets::without;
+use trial::flat::number;
+use trial::links::link;
 use units::Firings;
 use units::Tokens;
 
@@ -56,35 +64,35 @@ fn above(actors: usize, repetition: Firings) -> Firings
     Firings::of(most).times(repetition)
 }
 
-fn start(actors: usize, output: usize, q: &[u64], s: &mut [u64])
-    requires { ⌜ (actors ≤ engine-actors) × (output < actors) × (actors ≤ length (now q)) × (actors ≤ length (now s)) × ((v : ℕ) → v < actors → getD (now q) v 0 ≤ max-repetition) ⌝ }
-    ensures { λ _. ⌜ Highest actors output (vector (now (q .entry))) (vector (now (s .exit))) ⌝ }
+// Actors in `zero` start at 0, the others at more than they can skip.
+fn start(actors: usize, zero: u64, q: &[u64], s: &mut [u64])
+    requires { ⌜ (actors ≤ engine-actors) × (actors ≤ length (now q)) × (actors ≤ length (now s)) × ((v : ℕ) → v < actors → getD (now q) v 0 ≤ max-repetition) ⌝ }
+    ensures { λ _. ⌜ Highest actors zero (vector (now (q .entry))) (vector (now (s .exit))) ⌝ }
 {
     let mut v = 0;
     while v < actors {
-        let most = above(actors, Firings::of(q[v]));
+        let most = above(actors, Firings::of(q[v] * (1 - has(zero, v))));
         s[v] = most.count();
         v += 1;
     }
-    s[output] = 0;
 }
 
-// The channels into actor h lower their tails to what they allow; a tail that falls is ready. Says whether one fell.
+// The channels into actor h lower their tails to what they allow. Returns the tails that fell.
 fn lower(
     actors: usize,
     input: usize,
     output: usize,
     channels: &[u32],
     into: &[u64],
+    zero: u64,
     h: usize,
     s: &mut [u64],
-    ready: &mut [u64],
-) -> bool
-    requires { ⌜ (Drawn (graph-of actors input output (now channels))) × Linked (heads (now channels)) actors (length (now channels) / 5) (now into) × (h < actors) × (actors ≤ length (now s)) × (actors ≤ length (now ready)) ⌝ }
-    requires { ⌜ Falling (graph-of actors input output (now channels)) (vector (now s)) × ((d : ℕ) → heads (now channels) d ≢ h → Watched (graph-of actors input output (now channels)) (vector (now s)) (vector (now ready)) d) ⌝ }
-    ensures { λ r. ⌜ Lowered (graph-of actors input output (now (channels .entry))) r (now (ready .exit) ≡ now (ready .entry)) (now (s .entry)) (now (s .exit)) (now (ready .exit)) ⌝ }
+) -> u64
+    requires { ⌜ (Drawn (graph-of actors input output (now channels))) × Linked (heads (now channels)) actors (length (now channels) / 5) (now into) × (h < actors) × (actors ≤ length (now s)) ⌝ }
+    requires { ⌜ Falling (graph-of actors input output (now channels)) zero (vector (now s)) ⌝ }
+    ensures { λ r. ⌜ Lowered (graph-of actors input output (now (channels .entry))) zero h r (now (s .entry)) (now (s .exit)) ⌝ }
 {
-    let mut more = false;
+    let mut fell = 0;
     let mut at = into[h];
     while 0 < at {
         let c = (at - 1) as usize;
@@ -93,64 +101,73 @@ fn lower(
         let skip = Firings::of(s[h]);
         if lowers(channels, c, skip, Firings::of(s[tail])) {
             s[tail] = allowed(channels, c, skip).count();
-            ready[tail] = 1;
-            more = true;
+            fell = with(fell, tail, true);
         }
     }
-    more
+    fell
 }
 
-// One pass over the actors that are ready. Says whether an entry was lowered. Channels mostly lead from lower to higher numbers,
-// and skips go against them: so from the last to the first.
-fn pass(
+// The same, but where all tails are in `zero` none can fall.
+fn relax(
     actors: usize,
     input: usize,
     output: usize,
     channels: &[u32],
+    words: &[u64],
+    between: &[u8],
     into: &[u64],
+    zero: u64,
+    h: usize,
     s: &mut [u64],
-    ready: &mut [u64],
-) -> bool
-    requires { ⌜ (Drawn (graph-of actors input output (now channels))) × Linked (heads (now channels)) actors (length (now channels) / 5) (now into) × (actors ≤ length (now s)) × (actors ≤ length (now ready)) ⌝ }
-    requires { ⌜ Falling (graph-of actors input output (now channels)) (vector (now s)) × ((d : ℕ) → Watched (graph-of actors input output (now channels)) (vector (now s)) (vector (now ready)) d) ⌝ }
-    ensures { λ r. ⌜ Lowered (graph-of actors input output (now (channels .entry))) r (Skips (graph-of actors input output (now (channels .entry))) (vector (now (s .exit)))) (now (s .entry)) (now (s .exit)) (now (ready .exit)) ⌝ }
+) -> u64
+    requires { ⌜ (Drawn (graph-of actors input output (now channels))) × Linked (heads (now channels)) actors (length (now channels) / 5) (now into) × (h < actors) × (actors ≤ length (now s)) ⌝ }
+    requires { ⌜ Falling (graph-of actors input output (now channels)) zero (vector (now s)) × Words (graph-of actors input output (now channels)) (now words) (now between) ⌝ }
+    ensures { λ r. ⌜ Lowered (graph-of actors input output (now (channels .entry))) zero h r (now (s .entry)) (now (s .exit)) ⌝ }
 {
-    let mut more = false;
-    let mut h = actors;
-    while 0 < h {
-        h -= 1;
-        if ready[h] != 0 {
-            ready[h] = 0;
-            if lower(actors, input, output, channels, into, h, s, ready) {
-                more = true;
-            }
-        }
+    if minus(words[3 * h + TAILS], zero) == 0 {
+        return 0;
     }
-    more
+    lower(actors, input, output, channels, into, zero, h, s)
 }
 
-// At the start only the channels into the output may lower a tail. `into` lists the channels by head; the last slice is lent
-// to work in.
+// From the start on only the channels into `zero` may lower a tail. `into` is lent to work in.
 pub fn skips(
     actors: usize,
     input: usize,
     output: usize,
     channels: &[u32],
-    into: &[u64],
+    words: &[u64],
+    between: &[u8],
+    zero: u64,
+    into: &mut [u64],
     q: &[u64],
     s: &mut [u64],
-    ready: &mut [u64],
 )
     requires { ⌜ (Drawn (graph-of actors input output (now channels))) × (Reached (graph-of actors input output (now channels))) × (actors ≤ length (now q)) × (actors ≤ length (now s)) × (Repeats (graph-of actors input output (now channels)) (now q)) ⌝ }
-    requires { ⌜ Linked (heads (now channels)) actors (length (now channels) / 5) (now into) × (actors ≤ length (now ready)) ⌝ }
+    requires { ⌜ Words (graph-of actors input output (now channels)) (now words) (now between) × Unskipped (graph-of actors input output (now channels)) zero × (actors + length (now channels) / 5 ≤ length (now into)) ⌝ }
     ensures { λ _. ⌜ Skips (graph-of actors input output (now (channels .entry))) (vector (now (s .exit))) ⌝ }
 {
-    start(actors, output, q, s);
-    clear(actors, ready);
-    ready[output] = 1;
-    let mut more = true;
-    while more {
-        more = pass(actors, input, output, channels, into, s, ready);
+    start(actors, zero, q, s);
+    if covers(zero, actors) {
+        return;
+    }
+    link(actors, channels, 1, into);
+    let mut todo = zero;
+    while todo != 0 {
+        let h = greatest(todo);
+        let fell = relax(
+            actors,
+            input,
+            output,
+            channels,
+            words,
+            between,
+            into,
+            zero,
+            h,
+            s,
+        );
+        todo = joined(without(todo, h), fell);
     }
 }
 

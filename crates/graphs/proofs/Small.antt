@@ -6,7 +6,7 @@ use native.Mathlib.Nat.{le-antisymm, le-of-suc-le-suc, not-suc-le-zero}
 use native.Mathlib.Omega.{arith}
 use Rattle.sdf.specs.Graph.{Graph}
 use Rattle.sdf.proofs.Numbers.{lt-or-ge}
-use Rattle.graph.specs.Flat.{Drawn}
+use Rattle.trial.specs.Flat.{Drawn}
 use Rattle.graphs.specs.Small.{Each, InRange, Small}
 
 each-at : (P : ℕ → Type 0) (n : ℕ) → Each P n → (c : ℕ) → c < n → P c

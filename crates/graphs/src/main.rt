@@ -2,7 +2,7 @@
 // is 0, the repetition numbers and the skips.
 ghost use Prim.Native.Nat.{_≤_};
 ghost use lib.ListN.{length};
-ghost use Rattle.graph.specs.Flat.{graph-of};
+ghost use Rattle.trial.specs.Flat.{graph-of};
 ghost use Rattle.graphs.specs.Small.{Small};
 use graph::GraphAnswer;
 use libc::STDOUT_FILENO;
@@ -36,6 +36,10 @@ fn judge(actors: usize, input: usize, output: usize, channels: &[u32])
 {
     let mut q = [0u64; 3];
     let mut s = [0u64; 3];
+    let mut words = [0u64; 9];
+    let mut between = [0u8; 9];
+    let mut awaits = [0u64; 3];
+    let mut kept = [0u32; 10];
     let mut tokens = [0u64; 2];
     let mut left = [0u64; 3];
     let mut ready = [0u64; 3];
@@ -49,6 +53,10 @@ fn judge(actors: usize, input: usize, output: usize, channels: &[u32])
         channels,
         &mut q,
         &mut s,
+        &mut words[..3 * actors],
+        &mut between,
+        &mut awaits,
+        &mut kept,
         &mut tokens,
         &mut left,
         &mut ready,

@@ -4,6 +4,7 @@ pub mod Settle
 pub mod Allowed
 pub mod Order
 pub mod Trial
+pub mod Stops
 pub mod Reach
 pub mod Balance
 pub mod Skip

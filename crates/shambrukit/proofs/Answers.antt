@@ -12,7 +12,7 @@ use Rattle.sdf.specs.Skip.{fewest}
 use Rattle.edf.specs.Demand.{demand, load, LateLength, Within}
 use Rattle.edf.specs.Tasks.{tasks, task-numbers}
 use Rattle.edf.proofs.Fits.{fits-fewest}
-use Rattle.graph.specs.Flat.{vector}
+use Rattle.trial.specs.Flat.{vector}
 use Rattle.sheet.specs.declared.Refusal.the-variants.{Question, Room, Number}
 use Rattle.sheet.specs.declared.Written.the-variants.{Wrote, Refused}
 use Rattle.sheet.proofs.Walk.{part-is-drop}

@@ -23,7 +23,7 @@ use Rattle.edf.specs.Arrivals.{due}
 use Rattle.edf.specs.Demand.{Works, cost, blocks, demand, iteration, load}
 use Rattle.edf.specs.Frame.{CommonMultiple, Frame}
 use Rattle.edf.proofs.Demand.{within-from-frame}
-use Rattle.graph.specs.Flat.{vector}
+use Rattle.trial.specs.Flat.{vector}
 use Rattle.sheet.specs.declared.Answer.{Answer}
 use Rattle.sheet.specs.declared.Answer.the-variants.{On, No}
 use Rattle.sheet.specs.declared.Refusal.{Refusal}

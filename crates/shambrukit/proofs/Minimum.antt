@@ -22,7 +22,7 @@ use Rattle.edf.specs.Demand.{Works, load, LateLength, Within}
 use Rattle.edf.specs.Frame as frame
 use Rattle.edf.proofs.Demand.{overload-late}
 use Rattle.edf.specs.Bounds.{Bounded, AllBounded}
-use Rattle.graph.specs.Flat.{vector}
+use Rattle.trial.specs.Flat.{vector}
 use Rattle.sheet.specs.declared.Answer.{Answer}
 use Rattle.sheet.specs.declared.Answer.the-variants.{On, No}
 use Rattle.sheet.specs.declared.Refusal.{Refusal}

@@ -10,7 +10,7 @@ use Rattle.units.specs.Bounds.{max-repetition}
 use Rattle.sdf.specs.Graph.{Graph, Sound}
 use Rattle.sdf.specs.Balance.{Balances}
 use Rattle.sdf.specs.Skip.{Skips}
-use Rattle.graph.specs.Flat.{vector}
+use Rattle.trial.specs.Flat.{vector}
 use Rattle.graph.specs.Repetition.{Repeats}
 use Rattle.graph.specs.Judged as engine
 use Rattle.graph.specs.declared.GraphAnswer.{GraphAnswer}

@@ -15,7 +15,7 @@ use Rattle.sdf.specs.Graph.{Reached}
 use Rattle.sdf.specs.Balance.{Balances}
 use Rattle.sdf.proofs.Skip.{skips-bounded}
 use Rattle.edf.specs.Bounds.{Bounded}
-use Rattle.graph.specs.Flat.{vector, Drawn}
+use Rattle.trial.specs.Flat.{vector, Drawn}
 use Rattle.sheet.specs.Field.{Field}
 use Rattle.sheet.specs.Layout.{none, fixed-part, channel-part, total, in-numbers}
 use Rattle.sheet.specs.Fields.{in-range}

@@ -11,7 +11,7 @@ use Rattle.sdf.proofs.Skip.{skips-one}
 use Rattle.edf.specs.Demand.{Works}
 use Rattle.edf.proofs.Demand.{late-one}
 use Rattle.edf.proofs.Frame.{frame-one}
-use Rattle.graph.specs.Flat.{vector}
+use Rattle.trial.specs.Flat.{vector}
 use Rattle.sheet.specs.declared.Answer.{Answer}
 use Rattle.sheet.specs.declared.Answer.the-variants.{On, No}
 use Rattle.sheet.specs.declared.Refusal.{Refusal}

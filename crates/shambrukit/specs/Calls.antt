@@ -10,7 +10,7 @@ use Rattle.units.specs.Bounds.{max-ticks, max-outputs}
 use Rattle.sdf.specs.Skip.{fewest}
 use Rattle.edf.specs.Demand.{demand}
 use Rattle.edf.specs.Tasks.{tasks, task-numbers}
-use Rattle.graph.specs.Flat.{vector}
+use Rattle.trial.specs.Flat.{vector}
 use Rattle.sheet.specs.Answer.{numberOf, placeOf, filled}
 use Rattle.sheet.specs.declared.Refusal.{Refusal}
 use Rattle.sheet.specs.declared.Refusal.the-variants.{Question, Room, Number}

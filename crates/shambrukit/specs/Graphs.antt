@@ -7,7 +7,7 @@ use Rattle.sdf.specs.Graph.{Graph}
 use Rattle.sdf.specs.Balance.{Repetition}
 use Rattle.sdf.specs.Skip.{Skips}
 use Rattle.edf.specs.Demand.{Work, Works}
-use Rattle.graph.specs.Flat.{graph-of, vector}
+use Rattle.trial.specs.Flat.{graph-of, vector}
 use Rattle.sheet.specs.Layout.{in-numbers}
 use Rattle.sheet.specs.Check.{actor-count, channel-count, stretch}
 

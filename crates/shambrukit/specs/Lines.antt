@@ -10,7 +10,7 @@ use Rattle.sdf.specs.Graph.{Reached}
 use Rattle.sdf.specs.Order.{Lives, AtRest}
 use Rattle.sdf.specs.Balance.{Balances, Once}
 use Rattle.edf.specs.Frame as frame
-use Rattle.graph.specs.Flat.{vector}
+use Rattle.trial.specs.Flat.{vector}
 use Rattle.sheet.specs.declared.Answer.{Answer}
 use Rattle.sheet.specs.declared.Answer.the-variants.{On, No}
 use Rattle.sheet.specs.declared.Refusal.{Refusal}

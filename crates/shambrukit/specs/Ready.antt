@@ -8,7 +8,7 @@ use Rattle.units.specs.Bounds.{max-repetition}
 use Rattle.sdf.specs.Graph.{Reached}
 use Rattle.sdf.specs.Order.{Lives, AtRest}
 use Rattle.sdf.specs.Balance.{Balances, Once}
-use Rattle.graph.specs.Flat.{vector}
+use Rattle.trial.specs.Flat.{vector}
 use Rattle.graph.specs.declared.GraphAnswer.{GraphAnswer}
 use Rattle.graph.specs.declared.GraphAnswer.the-variants as graph
 use Rattle.sheet.specs.declared.Answer.{Answer}

@@ -51,6 +51,10 @@ fn numbers(
     k: u64,
     q: &mut [u64],
     s: &mut [u64],
+    words: &mut [u64],
+    between: &mut [u8],
+    awaits: &mut [u64],
+    kept: &mut [u32],
     tokens: &mut [u64],
     left: &mut [u64],
     ready: &mut [u64],
@@ -60,6 +64,7 @@ fn numbers(
 ) -> Answer
     requires { ⌜ (sized (now l) ≡ true) × (stretch in-numbers (now l) ≤ length (now l)) ⌝ }
     requires { ⌜ (32 ≤ length (now q)) × (32 ≤ length (now s)) ⌝ }
+    requires { ⌜ (96 ≤ length (now words)) × (1024 ≤ length (now between)) × (32 ≤ length (now awaits)) × (320 ≤ length (now kept)) ⌝ }
     requires { ⌜ (64 ≤ length (now tokens)) × (32 ≤ length (now left)) × (32 ≤ length (now ready)) × (96 ≤ length (now into)) × (96 ≤ length (now out)) × (0 < length (now hints)) ⌝ }
     ensures { λ r. ⌜ Says k (now (l .entry)) r (now (q .exit)) (now (s .exit)) ⌝ }
 {
@@ -76,6 +81,10 @@ fn numbers(
         &l[first..last],
         q,
         s,
+        &mut words[..3 * actors],
+        between,
+        awaits,
+        kept,
         tokens,
         left,
         ready,
@@ -143,6 +152,10 @@ fn graph_ready(
     rows: &mut [u64],
     q: &mut [u64],
     s: &mut [u64],
+    words: &mut [u64],
+    between: &mut [u8],
+    awaits: &mut [u64],
+    kept: &mut [u32],
     tokens: &mut [u64],
     left: &mut [u64],
     ready: &mut [u64],
@@ -153,10 +166,26 @@ fn graph_ready(
     requires { ⌜ (sized (now l) ≡ true) × (stretch in-numbers (now l) ≤ length (now l)) ⌝ }
     requires { ⌜ (k < 8) × (24 ≤ length (now heads)) × (832 ≤ length (now rows)) ⌝ }
     requires { ⌜ (32 ≤ length (now q)) × (32 ≤ length (now s)) ⌝ }
+    requires { ⌜ (96 ≤ length (now words)) × (1024 ≤ length (now between)) × (32 ≤ length (now awaits)) × (320 ≤ length (now kept)) ⌝ }
     requires { ⌜ (64 ≤ length (now tokens)) × (32 ≤ length (now left)) × (32 ≤ length (now ready)) × (96 ≤ length (now into)) × (96 ≤ length (now out)) × (0 < length (now hints)) ⌝ }
     ensures { λ r. ⌜ GraphReady k (now (l .entry)) r (now (heads .entry)) (now (rows .entry)) (now (heads .exit)) (now (rows .exit)) ⌝ }
 {
-    let found = numbers(l, k, q, s, tokens, left, ready, into, out, hints);
+    let found = numbers(
+        l,
+        k,
+        q,
+        s,
+        words,
+        between,
+        awaits,
+        kept,
+        tokens,
+        left,
+        ready,
+        into,
+        out,
+        hints,
+    );
     match found {
         Answer::No(r) => return Answer::No(r),
         Answer::On => {}
@@ -173,6 +202,10 @@ fn walk(l: &[u32], n: u64, heads: &mut [u64], rows: &mut [u64]) -> Answer
 {
     let mut q = [0u64; ROOM];
     let mut s = [0u64; ROOM];
+    let mut words = [0u64; 3 * ROOM];
+    let mut between = [0u8; ROOM * ROOM];
+    let mut awaits = [0u64; ROOM];
+    let mut kept = [0u32; 5 * CHANNELS];
     let mut tokens = [0u64; CHANNELS];
     let mut left = [0u64; ROOM];
     let mut ready = [0u64; ROOM];
@@ -190,6 +223,10 @@ fn walk(l: &[u32], n: u64, heads: &mut [u64], rows: &mut [u64]) -> Answer
             rows,
             &mut q,
             &mut s,
+            &mut words,
+            &mut between,
+            &mut awaits,
+            &mut kept,
             &mut tokens,
             &mut left,
             &mut ready,

@@ -45,7 +45,7 @@ walk-end size k (x ∷ s) e =
     absurd (omega (arith, eqb-true (suc (length s)) 0 (unless-on (eqb (suc (length s)) 0) (Cut k) On e .0)))
 
 -- A graph at the start of t has the counts of the graph at the start of s.
-abbrev Counts : List ℕ → List ℕ → Type 0
+abbrev pub Counts : List ℕ → List ℕ → Type 0
 Counts s t = (actor-count t ≡ actor-count s) × (channel-count t ≡ channel-count s)
 
 same-stretch : (size : Field → ℕ) (s t : List ℕ) → Counts s t → stretch size t ≡ stretch size s
@@ -56,25 +56,22 @@ same-sized : (s t : List ℕ) → Counts s t → sized t ≡ sized s
 unfolding sized
 same-sized s t c = rw (c .0, c .1)
 
--- A graph turned from one form into the other: it has the other form's length, and its counts stand in front.
-record Turning (turn : List Field → List ℕ → List ℕ) (to : Field → ℕ) : Type 0 where
-  whole : (s : List ℕ) → length (turn (layout-of s) s) ≡ stretch to s
-  counts : (s rest : List ℕ) → sized s ≡ true → Counts s (turn (layout-of s) s ++ rest)
-  fixed : (s : List ℕ) → total to (fixed-part 0) ≤ stretch to s
+-- n graphs turned from one form into the other, one after the other: each has the other form's length, and its counts stand in front.
+pub record Turning (turn : List Field → List ℕ → List ℕ) (from to : Field → ℕ) (graphs : ℕ → List ℕ → List ℕ) : Type 0 where
+  pub none : (s : List ℕ) → graphs 0 s ≡ []
+  pub more : (n : ℕ) (s : List ℕ) → graphs (suc n) s ≡ turn (layout-of s) s ++ graphs n (drop (stretch from s) s)
+  pub whole : (s : List ℕ) → length (turn (layout-of s) s) ≡ stretch to s
+  pub counts : (s rest : List ℕ) → sized s ≡ true → Counts s (turn (layout-of s) s ++ rest)
+  pub fixed : (s : List ℕ) → total to (fixed-part 0) ≤ stretch to s
 
--- n graphs turned, one after the other.
-graphs : (List Field → List ℕ → List ℕ) → (Field → ℕ) → ℕ → List ℕ → List ℕ
-graphs turn from zero s = []
-graphs turn from (suc n) s = turn (layout-of s) s ++ graphs turn from n (drop (stretch from s) s)
-
-module _ {turn : List Field → List ℕ → List ℕ} (from : Field → ℕ) {to : Field → ℕ} (t : Turning turn to) where
+module _ {turn : List Field → List ℕ → List ℕ} {from to : Field → ℕ} {graphs : ℕ → List ℕ → List ℕ} (t : Turning turn from to graphs) where
   -- Turned graphs pass the first walk.
-  walk-turned : (n k : ℕ) (s : List ℕ) → first-walk from n k s ≡ On → first-walk to n k (graphs turn from n s) ≡ On
-  unfolding graphs first-walk
-  walk-turned zero k s e = refl
+  walk-turned : (n k : ℕ) (s : List ℕ) → first-walk from n k s ≡ On → first-walk to n k (graphs n s) ≡ On
+  unfolding first-walk
+  walk-turned zero k s e = rw (t .none s)
   walk-turned (suc n) k s e =
       let x : List ℕ = turn (layout-of s) s in
-      let rest : List ℕ = graphs turn from n (drop (stretch from s) s) in
+      let rest : List ℕ = graphs n (drop (stretch from s) s) in
       let w : Passed from s × (first-walk from n (suc k) (drop (stretch from s) s) ≡ On) = walk-on from n k s e in
       let c : Counts s (x ++ rest) = t .counts s rest (w .0 .counts) in
       let same : stretch to (x ++ rest) ≡ stretch to s = same-stretch to s (x ++ rest) c in
@@ -83,60 +80,54 @@ module _ {turn : List Field → List ℕ → List ℕ} (from : Field → ℕ) {t
         counts = same-sized s (x ++ rest) c ∙ w .0 .counts;
         whole = omega (arith, length-append x rest, t .whole s);
       } in
-      rw (graph-passed to k (x ++ rest) p, same, drop-at x rest (stretch to s) (t .whole s)) (walk-turned n (suc k) (drop (stretch from s) s) (w .1))
+      rw (t .more n s, graph-passed to k (x ++ rest) p, same, drop-at x rest (stretch to s) (t .whole s))
+      (walk-turned n (suc k) (drop (stretch from s) s) (w .1))
 
   -- Each of them takes what its counts allow at most.
   turned-length :
       (most : ℕ) → ((s : List ℕ) → sized s ≡ true → stretch to s ≤ most) →
-      (n k : ℕ) (s : List ℕ) → first-walk from n k s ≡ On → length (graphs turn from n s) ≤ n * most
-  unfolding graphs
-  turned-length most h zero k s e = omega arith
+      (n k : ℕ) (s : List ℕ) → first-walk from n k s ≡ On → length (graphs n s) ≤ n * most
+  turned-length most h zero k s e = rw (t .none s) (omega arith)
   turned-length most h (suc n) k s e =
       let after : List ℕ = drop (stretch from s) s in
       let w : Passed from s × (first-walk from n (suc k) after ≡ On) = walk-on from n k s e in
-      let rest : List ℕ = graphs turn from n after in
-      omega (arith, length-append (turn (layout-of s) s) rest, t .whole s, h s (w .0 .counts), turned-length most h n (suc k) after (w .1))
+      rw (t .more n s, length-append, t .whole s) (omega (arith, h s (w .0 .counts), turned-length most h n (suc k) after (w .1)))
 
   -- Turned back they are what they were, if each is.
   turned-back :
-      (other : List Field → List ℕ → List ℕ) (Good : ℕ → List ℕ → Type 0) →
+      {other : List Field → List ℕ → List ℕ} {back : ℕ → List ℕ → List ℕ} → Turning other to from back → (Good : ℕ → List ℕ → Type 0) →
       ((n : ℕ) (s : List ℕ) → Passed from s → Good (suc n) s →
       ((rest : List ℕ) → other (layout-of s) (turn (layout-of s) s ++ rest) ≡ take (stretch from s) s) × Good n (drop (stretch from s) s)) →
-      (n k : ℕ) (s : List ℕ) → first-walk from n k s ≡ On → Good n s → graphs other to n (graphs turn from n s) ≡ s
-  unfolding graphs
-  turned-back other Good one zero k s e g = sym (walk-end from k s e)
-  turned-back other Good one (suc n) k s e g =
+      (n k : ℕ) (s : List ℕ) → first-walk from n k s ≡ On → Good n s → back n (graphs n s) ≡ s
+  turned-back u Good one zero k s e g = rw (t .none s, u .none []) (sym (walk-end from k s e))
+  turned-back {back = back} u Good one (suc n) k s e g =
       let after : List ℕ = drop (stretch from s) s in
       let x : List ℕ = turn (layout-of s) s in
-      let rest : List ℕ = graphs turn from n after in
+      let rest : List ℕ = graphs n after in
       let w : Passed from s × (first-walk from n (suc k) after ≡ On) = walk-on from n k s e in
       let c : Counts s (x ++ rest) = t .counts s rest (w .0 .counts) in
       let o = one n s (w .0) g in
-      let back : graphs other to n rest ≡ after = turned-back other Good one n (suc k) after (w .1) (o .1) in
-      rw (c .0, c .1, same-stretch to s (x ++ rest) c, drop-at x rest (stretch to s) (t .whole s), back, o .0 rest)
+      let b : back n rest ≡ after = turned-back u Good one n (suc k) after (w .1) (o .1) in
+      rw (t .more n s, u .more n (x ++ rest), c .0, c .1, same-stretch to s (x ++ rest) c, drop-at x rest (stretch to s) (t .whole s), b, o .0 rest)
       (take-append-drop (stretch from s) s)
 
-graphs-numbers-is : (n : ℕ) (s : List ℕ) → graphs-numbers n s ≡ graphs numbers in-bytes n s
-unfolding graphs graphs-numbers
-graphs-numbers-is zero s = refl
-graphs-numbers-is (suc n) s = rw (graphs-numbers-is n (drop (stretch in-bytes s) s))
-
-graphs-bytes-is : (n : ℕ) (l : List ℕ) → graphs-bytes n l ≡ graphs bytes in-numbers n l
-unfolding graphs graphs-bytes
-graphs-bytes-is zero l = refl
-graphs-bytes-is (suc n) l = rw (graphs-bytes-is n (drop (stretch in-numbers l) l))
-
-turning-numbers : Turning numbers in-numbers
-unfolding numbers layout fixed-part big-endian stretch
+-- Numbers out of bytes.
+pub turning-numbers : Turning numbers in-bytes in-numbers graphs-numbers
+unfolding graphs-numbers numbers layout fixed-part big-endian stretch
 turning-numbers = record {
+  none = λ s. refl;
+  more = λ n s. refl;
   whole = λ s. numbers-length (layout-of s) s ∙ layout-length (actor-count s) (channel-count s);
   counts = λ s rest e. (omega arith, omega (arith, getD-drop 1 s 0 0));
   fixed = λ s. omega (arith, fixed-numbers 0, layout-numbers (actor-count s) (channel-count s));
 }
 
-turning-bytes : Turning bytes in-bytes
-unfolding bytes layout fixed-part to-bytes stretch
+-- Bytes out of numbers.
+pub turning-bytes : Turning bytes in-numbers in-bytes graphs-bytes
+unfolding graphs-bytes bytes layout fixed-part to-bytes stretch
 turning-bytes = record {
+  none = λ s. refl;
+  more = λ n s. refl;
   whole = λ s. bytes-length (layout-of s) s;
   counts = λ s rest e. (omega (arith, sized-gives s e .actors), omega (arith, sized-gives s e .channels, getD-drop 1 s 0 0));
   fixed = λ s. omega (arith, fixed-bytes 0, layout-bytes (actor-count s) (channel-count s));
@@ -153,17 +144,15 @@ graphs-bytes-bytes (suc n) l =
 graphs-same-bytes : (n : ℕ) (s : List ℕ) → Bytes s → first-walk in-bytes n 0 s ≡ On → graphs-bytes n (graphs-numbers n s) ≡ s
 unfolding stretch
 graphs-same-bytes n s b e =
-    rw (graphs-bytes-is, graphs-numbers-is)
-    (turned-back in-bytes turning-numbers bytes (λ m t. Bytes t)
-    (λ m t p c. (λ rest. bytes-numbers (layout-of t) t rest (p .whole) c, bytes-drop (stretch in-bytes t) t c)) n 0 s e b)
+    turned-back turning-numbers turning-bytes (λ m t. Bytes t)
+    (λ m t p c. (λ rest. bytes-numbers (layout-of t) t rest (p .whole) c, bytes-drop (stretch in-bytes t) t c)) n 0 s e b
 
 -- The graphs of a list of numbers, written and read again.
 graphs-same-numbers :
     (n : ℕ) (l : List ℕ) → first-walk in-numbers n 0 l ≡ On → range-walk n 0 l ≡ On → graphs-numbers n (graphs-bytes n l) ≡ l
 unfolding stretch range-walk
 graphs-same-numbers n l e r =
-    rw (graphs-bytes-is, graphs-numbers-is)
-    (turned-back in-numbers turning-bytes numbers (λ m t. (k : ℕ) × (range-walk m k t ≡ On)) one n 0 l e (0, r))
+    turned-back turning-bytes turning-numbers (λ m t. (k : ℕ) × (range-walk m k t ≡ On)) one n 0 l e (0, r)
   where
     one :
         (m : ℕ) (t : List ℕ) → Passed in-numbers t → (k : ℕ) × (range-walk (suc m) k t ≡ On) →
@@ -244,11 +233,11 @@ graph-bytes-at-most s e = omega (arith, sized-gives s e .actors, sized-gives s e
 
 -- The n graphs of a byte string have at most 358 numbers each.
 pub graphs-numbers-at-most : (n k : ℕ) (s : List ℕ) → first-walk in-bytes n k s ≡ On → length (graphs-numbers n s) ≤ n * largest-graph
-graphs-numbers-at-most n k s e = rw graphs-numbers-is (turned-length in-bytes turning-numbers largest-graph graph-numbers-at-most n k s e)
+graphs-numbers-at-most n k s e = turned-length turning-numbers largest-graph graph-numbers-at-most n k s e
 
 -- The n graphs of a list of numbers have at most 652 bytes each.
 pub graphs-bytes-at-most : (n k : ℕ) (l : List ℕ) → first-walk in-numbers n k l ≡ On → length (graphs-bytes n l) ≤ n * largest-graph-bytes
-graphs-bytes-at-most n k l e = rw graphs-bytes-is (turned-length in-numbers turning-bytes largest-graph-bytes graph-bytes-at-most n k l e)
+graphs-bytes-at-most n k l e = turned-length turning-bytes largest-graph-bytes graph-bytes-at-most n k l e
 
 -- An unpacked sheet has at most 2,865 numbers.
 pub unpacked-at-most : (s : List ℕ) → check-sheet s ≡ On → length (unpacked s) ≤ largest-list
@@ -276,7 +265,7 @@ unpacked-checks s e =
     on-graphs in-numbers (getD s 3 0) (graphs-numbers (getD s 3 0) (drop 4 s)) (record {
       some = g .some;
       few = g .few;
-      walk = rw graphs-numbers-is (walk-turned in-bytes turning-numbers (getD s 3 0) 0 (drop 4 s) (g .walk));
+      walk = walk-turned turning-numbers (getD s 3 0) 0 (drop 4 s) (g .walk);
     })
 
 -- What reads without refusal packs to the same bytes.
@@ -318,7 +307,7 @@ unpack-packed l e =
         rest = record {
           some = g .some;
           few = g .few;
-          walk = rw graphs-bytes-is (walk-turned in-numbers turning-bytes n 0 (drop 1 l) (g .walk));
+          walk = walk-turned turning-bytes n 0 (drop 1 l) (g .walk);
         };
       }),
       bytes-append (to-bytes 2 long) (1 ∷ n ∷ body) (to-bytes-bytes 2 long) behind,

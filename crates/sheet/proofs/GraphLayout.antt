@@ -3,7 +3,7 @@ use mathlib.Core.Path.{_≡_, refl, ap, _∙_}
 use mathlib.Core.List.{List, [], _∷_, _++_}
 use Prim.Native.Nat.{ℕ, zero, suc, _+_, _*_, _-_, _/_, _%_, _≤_, _<_}
 use native.Mathlib.Omega.{arith}
-use lib.ListN.{length, getD, take, List·getD-append}
+use lib.ListN.{length, getD, List·getD-append}
 use lib.Seq.{getD-append-add}
 use Rattle.units.specs.Bounds.{max-time}
 use Rattle.sheet.specs.Field.{Field}
@@ -21,7 +21,8 @@ unfolding total times
 total-times size zero part = omega arith
 total-times size (suc n) part = omega (arith, total-append size part (times n part), total-times size n part)
 
-total-layout :
+-- The room of a graph is that of its fixed part, its actors and its channels.
+pub total-layout :
     (size : Field → ℕ) (a c : ℕ) →
     total size (layout a c) ≡ total size (fixed-part a) + (a * total size actor-part + c * total size (channel-part a))
 unfolding layout

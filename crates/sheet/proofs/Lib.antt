@@ -4,7 +4,8 @@ pub mod Fields
 pub mod Forms
 pub mod Filling
 pub mod Parts
-pub mod Unpacking
 pub mod Ranges
+pub mod Writing
+pub mod Unpacking
 pub mod Packing
 pub mod Table

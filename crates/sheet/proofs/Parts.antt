@@ -1,6 +1,7 @@
 -- 01, The sheet, byte by byte: a graph is its fixed part, a part for each actor and a part for each channel. What is read or
 -- written of several parts is what is read or written of each, one after the other.
 use mathlib.Core.Path.{_≡_, refl, sym, _∙_}
+use mathlib.Core.Bool.{true}
 use mathlib.Core.List.{List, [], _∷_, _++_, append-assoc}
 use Prim.Native.Nat.{ℕ, zero, suc, _+_, _-_, _*_, _/_, _%_, _≤_, _<_}
 use native.Mathlib.Nat.{sub-zero, div-one, div-div-eq-div-mul}
@@ -9,12 +10,15 @@ use native.Mathlib.Omega.{arith}
 use lib.ListN.{length, getD, take, drop, set}
 use lib.Seq.{drop-drop, getD-drop, sets, sets-eq}
 use borrow.Rule.Slice.PartMut.{putMid, midOf}
+use Rattle.units.specs.Bounds.{max-actors, max-channels}
 use Rattle.sheet.specs.Field.{Field}
 use Rattle.sheet.specs.Layout.{fixed-part, actor-part, channel-part, times, layout, total, in-bytes, in-numbers}
 use Rattle.sheet.specs.Fields.{big-endian, to-bytes, numbers, bytes}
-use Rattle.sheet.proofs.GraphLayout.{length-fields, total-times}
+use Rattle.sheet.specs.Check.{actor-count, channel-count, sized, stretch}
+use Rattle.sheet.specs.Forms.{layout-of}
+use Rattle.sheet.proofs.GraphLayout.{length-fields, total-times, total-layout}
 use Rattle.sheet.proofs.Fields.{big-endian-one, numbers-length, bytes-length}
-use Rattle.sheet.proofs.Walk.{part-is-drop}
+use Rattle.sheet.proofs.Walk.{part-is-drop, sized-gives}
 use Rattle.sheet.proofs.Filling.{Filling, filling-start, filling-part, filling-end, filling-count, filling-length, filling-last}
 
 -- One form made of the other, field by field: a field takes up `from` where it is read and `to` where it is written.
@@ -113,6 +117,30 @@ module _ {write : List Field → List ℕ → List ℕ} {from to : Field → ℕ
 pub actors-total : {size : Field → ℕ} {f a c : ℕ} → Sizes size f a c → (n : ℕ) → total size (times n actor-part) ≡ a * n
 actors-total {size} {f} {a} {c} z n = rw (total-times size n actor-part, z .actor-is) (omega arith)
 
+-- The graph at the start of s takes what its parts take.
+stretch-is :
+    {size : Field → ℕ} {f a c : ℕ} → Sizes size f a c → (s : List ℕ) → stretch size s ≡ f + a * actor-count s + c * channel-count s
+unfolding stretch
+stretch-is {size} {f} {a} {c} z s =
+    total-layout size (actor-count s) (channel-count s)
+    ∙ rw (z .fixed-is (actor-count s), z .actor-is, z .channel-is (actor-count s)) (omega arith)
+
+-- The graph at the start of s, whose counts are within bounds: all of it is there, and `out` has room for it.
+pub record Fitting (f a c f' a' c' : ℕ) (s out : List ℕ) : Type 0 where
+  pub some : 1 ≤ getD s 0 0
+  pub actors : getD s 0 0 ≤ max-actors
+  pub channels : getD s 1 0 ≤ max-channels
+  pub there : f + a * getD s 0 0 + c * getD s 1 0 ≤ length s
+  pub room : f' + a' * getD s 0 0 + c' * getD s 1 0 ≤ length out
+
+-- What reading a graph and writing it ask for says that.
+pub graph-fits :
+    {from to : Field → ℕ} {f a c f' a' c' : ℕ} → Sizes from f a c → Sizes to f' a' c' → (s out : List ℕ) →
+    (sized s ≡ true) × (stretch from s ≤ length s) × (stretch to s ≤ length out) → Fitting f a c f' a' c' s out
+graph-fits z z' s out h =
+    let g = sized-gives s (h .0) in
+    record { some = g .some; actors = g .actors; channels = g .channels; there = rw (stretch-is z s) at (h .1); room = rw (stretch-is z' s) at (h .2) }
+
 module _
     {write : List Field → List ℕ → List ℕ} {from to : Field → ℕ} (form : Form write from to) {f a c f' a' c' : ℕ}
     (z : Sizes from f a c) (z' : Sizes to f' a' c') where
@@ -147,7 +175,7 @@ module _
 
   module _ (n m : ℕ) (s : List ℕ) {before now : List ℕ} where
     -- The fixed part of a graph is written.
-    pub graph-fixed :
+    graph-fixed :
         now ≡ write (fixed-part 0) s ++ drop f' before →
         Filling before now (write (layout n m) s)
         (write (times n actor-part) (drop f s) ++ write (times m (channel-part 0)) (drop (f + a * n) s)) f'
@@ -155,7 +183,7 @@ module _
         record { done = write (fixed-part 0) s; wrote = form .count (fixed-part 0) s ∙ z' .fixed-is 0; whole = sym (graph-whole n m s); is = e }
 
     -- Then its actors.
-    pub graph-actors :
+    graph-actors :
         {ys : List ℕ} (o : ℕ) → o ≡ a' * n →
         Filling before now (write (layout n m) s)
         (write (times n actor-part) (drop f s) ++ write (times m (channel-part 0)) (drop (f + a * n) s)) f' →
@@ -167,7 +195,7 @@ module _
         rw k at (filling-part (write (times n actor-part) (drop f s)) r (rw (part-is-drop s f, ← k) at e))
 
     -- Then its channels.
-    pub graph-channels :
+    graph-channels :
         {ys : List ℕ} {out : ℕ} (at o : ℕ) → at ≡ f + a * n → o ≡ c' * m →
         Filling before now (write (layout n m) s) (write (times m (channel-part 0)) (drop (f + a * n) s)) out →
         ys ≡ write (times m (channel-part 0)) (take (length s - at) (drop at s)) ++ drop o (midOf out (length now - out) now) →
@@ -177,6 +205,20 @@ module _
         let t : total to (times m (channel-part 0)) ≡ o = rw (total-times to m (channel-part 0), z' .channel-is 0, q) (omega arith) in
         let k : length (write (times m (channel-part 0)) l) ≡ o = form .count (times m (channel-part 0)) l ∙ t in
         rw (form .count (layout n m) s) at (filling-last (write (times m (channel-part 0)) l) (rw (← d) at r) (rw (part-is-drop s at, ← k) at e))
+
+  -- A graph is written where its fixed part is, then its actors, then its channels.
+  pub graph-written :
+      (s before : List ℕ) {now ys zs : List ℕ} (at o o' : ℕ) → at ≡ f + a * actor-count s → o ≡ a' * actor-count s → o' ≡ c' * channel-count s →
+      now ≡ write (fixed-part 0) s ++ drop f' before →
+      ys ≡ write (times (actor-count s) actor-part) (take (length s - f) (drop f s)) ++ drop o (midOf f' (length now - f') now) →
+      let now' = putMid f' (length now - f') now ys in
+      zs ≡ write (times (channel-count s) (channel-part 0)) (take (length s - at) (drop at s)) ++ drop o' (midOf (f' + o) (length now' - (f' + o)) now') →
+      putMid (f' + o) (length now' - (f' + o)) now' zs ≡ write (layout-of s) s ++ drop (stretch to s) before
+  unfolding stretch
+  graph-written s before at o o' d q q' e e' e'' =
+      let n : ℕ = actor-count s in
+      let m : ℕ = channel-count s in
+      graph-channels n m s at o' d q' (graph-actors n m s o q (graph-fixed n m s e) e') e''
 
 module _ (s list : List ℕ) where
   -- The numbers of the fixed part, one after the other.

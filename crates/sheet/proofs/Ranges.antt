@@ -148,19 +148,16 @@ module _ (l : List ℕ) where
       in-range (times (channel-count l) (channel-part (actor-count l))) (next-of l (6 + actor-count l)) ≡ in-range (layout-of l) l
   graph-channels-are e d = rw (graph-range l, e, d)
 
--- The graph to come in a walk that does not refuse: its counts are within bounds and all of it is there.
-pub next-stands :
-    {n : ℕ} {l : List ℕ} {k at : ℕ} → Walking in-numbers n l k at → first-walk in-numbers n 0 l ≡ On → k < n →
-    (sized (next-of l at) ≡ true) × (stretch in-numbers (next-of l at) ≤ length (next-of l at))
-next-stands {n} {l} {k} {at} w e h =
-    let p : Passed in-numbers (drop at l) = graph-on in-numbers k (drop at l) (walking-on w e h) in
-    rw part-is-drop (p .counts, p .whole)
+module _ {size : Field → ℕ} {n : ℕ} {l : List ℕ} {k at : ℕ} (w : Walking size n l k at) (e : first-walk size n 0 l ≡ On) (h : k < n) where
+  -- The graph to come in a walk that does not refuse: its counts are within bounds and all of it is there.
+  pub next-stands : (sized (next-of l at) ≡ true) × (stretch size (next-of l at) ≤ length (next-of l at))
+  next-stands =
+      let p : Passed size (drop at l) = graph-on size k (drop at l) (walking-on w e h) in
+      rw part-is-drop (p .counts, p .whole)
 
--- The walk over the graphs goes on behind it.
-pub next-turn :
-    {n : ℕ} {l : List ℕ} {k at m : ℕ} → Walking in-numbers n l k at → first-walk in-numbers n 0 l ≡ On → k < n →
-    m ≡ stretch in-numbers (next-of l at) → Walking in-numbers n l (k + 1) (at + m)
-next-turn w e h s = rw (s, part-is-drop) (walking-turn w h (walking-on w e h))
+  -- The walk over the graphs goes on behind it.
+  pub next-turn : {m : ℕ} → m ≡ stretch size (next-of l at) → Walking size n l (k + 1) (at + m)
+  next-turn s = rw (s, part-is-drop) (walking-turn w h (walking-on w e h))
 
 -- The ranges of the n graphs of l, come to graph k at place `at`: the graphs from there on decide.
 pub record Ranges-walk (n : ℕ) (l : List ℕ) (k at : ℕ) : Type 0 where

@@ -1,7 +1,7 @@
 -- 01, Order, first walk: what a graph that passes it gives, and the walk turn by turn.
 use mathlib.Core.Path.{_≡_, refl, sym, ap, _∙_}
 use mathlib.Core.Bool.{Bool, true, false, _&&_}
-use mathlib.Core.List.{List}
+use mathlib.Core.List.{List, [], _∷_}
 use Prim.Native.Nat.{ℕ, zero, suc, _+_, _-_, _≤_, _<_}
 use native.Mathlib.Nat.{add-zero, sub-zero}
 use native.Mathlib.Numerals.{add-one}
@@ -92,26 +92,35 @@ pub graph-passed : (size : Field → ℕ) (k : ℕ) (s : List ℕ) → Passed si
 unfolding graph-check
 graph-passed size k s p = rw (le-leb _ _ (p .fixed), p .counts, le-leb _ _ (p .whole))
 
--- A fixed part that is cut is refused.
-pub graph-cut :
-    (size : Field → ℕ) (k : ℕ) (s : List ℕ) → length s < total size (fixed-part 0) →
-    graph-check size k s ≡ No (Cut k)
-unfolding graph-check
-graph-cut size k s h = rw (lt-leb _ _ h)
+-- Counts that answer 5's test lets pass are within their bounds.
+pub told-bounds :
+    (a c : ℕ) {b : Bool} → b ≡ (between 1 max-actors a && between 0 max-channels c) → b ≡ true → (a ≤ max-actors) × (c ≤ max-channels)
+unfolding sized
+told-bounds a c e d = let z = sized-gives (a ∷ c ∷ []) (sym e ∙ d) in (z .actors, z .channels)
 
--- Then counts out of bounds are refused.
-pub graph-size :
-    (size : Field → ℕ) (k : ℕ) (s : List ℕ) → total size (fixed-part 0) ≤ length s → sized s ≡ false →
-    graph-check size k s ≡ No (Size k)
-unfolding graph-check
-graph-size size k s h e = rw (le-leb _ _ h, e)
+-- A graph's check, where the fixed part takes up `fixed` and answer 5's test says b.
+module _ (size : Field → ℕ) {fixed : ℕ} (f : total size (fixed-part 0) ≡ fixed) (k : ℕ) (s : List ℕ) where
+  -- A fixed part that is cut is refused.
+  pub told-cut : length s < fixed → No (Cut k) ≡ graph-check size k s
+  unfolding graph-check
+  told-cut h = rw (f, lt-leb fixed (length s) h)
 
--- Then a rest that is cut is refused.
-pub graph-short :
-    (size : Field → ℕ) (k : ℕ) (s : List ℕ) → total size (fixed-part 0) ≤ length s → sized s ≡ true → length s < stretch size s →
-    graph-check size k s ≡ No (Cut k)
-unfolding graph-check
-graph-short size k s h e l = rw (le-leb _ _ h, e, lt-leb _ _ l)
+  module _ {b : Bool} (h : fixed ≤ length s) (e : b ≡ (between 1 max-actors (actor-count s) && between 0 max-channels (channel-count s))) where
+    -- Then counts out of bounds are refused.
+    pub told-size : b ≡ false → No (Size k) ≡ graph-check size k s
+    unfolding graph-check sized
+    told-size d = rw (f, le-leb fixed (length s) h, ← e, d)
+
+    module _ {all : ℕ} (d : b ≡ true) (q : all ≡ total size (layout (actor-count s) (channel-count s))) where
+      -- Then a rest that is cut is refused.
+      pub told-short : length s < all → No (Cut k) ≡ graph-check size k s
+      unfolding graph-check sized stretch
+      told-short l = rw (f, le-leb fixed (length s) h, ← e, d, ← q, lt-leb all (length s) l)
+
+      -- A graph that is there is not.
+      pub told-on : all ≤ length s → On ≡ graph-check size k s
+      unfolding graph-check sized stretch
+      told-on l = rw (f, le-leb fixed (length s) h, ← e, d, ← q, le-leb all (length s) l)
 
 -- A graph that passes the first walk, at place `at` of s.
 pub record Stands (size : Field → ℕ) (s : List ℕ) (at : ℕ) : Type 0 where
@@ -213,26 +222,27 @@ module _ {size : Field → ℕ} {n : ℕ} {s : List ℕ} {k at : ℕ} where
   pub walking-end : Walking size n s k at → n ≤ k → length s ≤ at → first-walk size n 0 s ≡ On
   walking-end w h l = walking-last w h ∙ rw (eq-eqb (length s - at) 0 (omega arith))
 
--- What a turn of the walk makes of the answer that the part of s from place `at` got.
-module _
-    {size : Field → ℕ} {n : ℕ} {s : List ℕ} {k at : ℕ} {answer : Answer} (w : Walking size n s k at)
-    (e : answer ≡ graph-check size k (take (length s - at) (drop at s))) where
+-- The walk has come to graph k, at place `at`, and `answer` is what the check of the part of s from there says.
+pub record Met (size : Field → ℕ) (n : ℕ) (s : List ℕ) (k at : ℕ) (answer : Answer) : Type 0 where
+  pub walk : Walking size n s k at
+  pub more : k < n
+  pub told : answer ≡ graph-check size k (take (length s - at) (drop at s))
+
+module _ {size : Field → ℕ} {n : ℕ} {s : List ℕ} {k at : ℕ} {answer : Answer} (m : Met size n s k at answer) where
   graph-is : graph-check size k (drop at s) ≡ answer
-  graph-is = sym (e ∙ ap (graph-check size k) (part-is-drop s at))
+  graph-is = sym (m .told ∙ ap (graph-check size k) (part-is-drop s at))
 
   -- A refusal is the walk's answer.
-  pub met-no : {r : Refusal} → k < n → answer ≡ No r → No r ≡ first-walk size n 0 s
-  met-no h d = sym (walking-no _ w h (graph-is ∙ d))
+  pub met-no : {r : Refusal} → answer ≡ No r → No r ≡ first-walk size n 0 s
+  met-no d = sym (walking-no _ (m .walk) (m .more) (graph-is ∙ d))
 
   -- Without one the graph stands there.
   pub met-on : answer ≡ On → Stands size s at
-  met-on d = stands s at (w .inside) (graph-on size k (drop at s) (graph-is ∙ d))
+  met-on d = stands s at (m .walk .inside) (graph-on size k (drop at s) (graph-is ∙ d))
 
   -- And the walk goes on behind it.
-  pub met-turn :
-      {next : ℕ} → k < n → answer ≡ On → next ≡ total size (layout (getD s at 0) (getD s (at + 1) 0)) →
-      Walking size n s (k + 1) (at + next)
-  met-turn h d e = rw (e, ← stretch-at size s at) (walking-turn w h (graph-is ∙ d))
+  pub met-turn : {next : ℕ} → answer ≡ On → next ≡ total size (layout (getD s at 0) (getD s (at + 1) 0)) → Walking size n s (k + 1) (at + next)
+  met-turn d e = rw (e, ← stretch-at size s at) (walking-turn (m .walk) (m .more) (graph-is ∙ d))
 
 -- A graph count of 0 is refused.
 pub graphs-none : (size : Field → ℕ) (n : ℕ) (s : List ℕ) → n < 1 → check-graphs size n s ≡ No Count

@@ -36,9 +36,9 @@ max-rate = 4096
 abbrev pub max-tokens : ℕ
 max-tokens = 65535
 
--- What the engine on one graph takes: wider than a sheet, for graphs that are judged but not drawn on one.
+-- What the engine on one graph takes: as many actors as one word has bits.
 abbrev pub engine-actors : ℕ
-engine-actors = 128
+engine-actors = 64
 
 abbrev pub engine-channels : ℕ
 engine-channels = 256

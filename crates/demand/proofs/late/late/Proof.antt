@@ -10,9 +10,6 @@ weigh-requires c κs = search needs
 search-end-requires : tie.Need-search-end-requires
 search-end-requires c κs = search needs
 
-first-window-requires : tie.Need-first-window-requires
-first-window-requires c κs = let s = c .before .before .before .before .before .before .before .before .before .before .before .before .pre in λ i l. s .0 .0 .bounded .work i l .deadline-low
-
 blank-requires : tie.Need-blank-requires
 blank-requires c κs = search needs
 
@@ -42,7 +39,7 @@ late-spec =
     (tie.spec
     weigh-requires
     search-end-requires
-    first-window-requires
+    (λ c κs. search needs)
     blank-requires
     search-requires
     same-length

@@ -1,9 +1,9 @@
 -- `read` gives the channel that the graph has at this place.
 use mathlib.Core.Path.{sym}
 use borrow.Author.Needs.{needs}
-use Rattle.graph.specs.Flat.{graph-of}
-use Rattle.graph.specs.Read.{seen}
-use Rattle.graph.proofs.Places.{read}
+use Rattle.trial.specs.Flat.{graph-of}
+use Rattle.trial.specs.Read.{seen}
+use Rattle.trial.proofs.Places.{read}
 use Rattle.graph.proofs.repetition.read.Statement.{statement}
 use Rattle.graph.proofs.repetition.read.Tie as tie
 

@@ -1,34 +1,34 @@
--- `graph::skip::lower` meets its contract. The invariant: a channel that is not ahead is met, or its head is ready.
+-- `graph::skip::lower` meets its contract. The invariant: a channel into h that is not ahead is met, unless h has fallen.
 use mathlib.Core.Path.{ap, sym, _∙_}
-use Prim.Native.Nat.{_+_, _-_, _/_, _<_, _≤_}
+use Prim.Native.Nat.{_+_, _-_, _<_}
 use native.Mathlib.Omega.{arith}
-use lib.ListN.{length, length-set, getD}
+use lib.ListN.{length, getD}
 use borrow.Author.Needs.{needs}
 use Rattle.sdf.specs.Skip.{allowed}
-use Rattle.graph.specs.Flat.{channel-at, graph-of}
-use Rattle.graph.specs.Decides.{Decides}
-use Rattle.graph.specs.Links.{heads, Chain}
-use Rattle.graph.proofs.Chains.{walked-next}
-use Rattle.graph.proofs.Decided.{decided-yes, decided-no}
-use Rattle.graph.proofs.Ends.{Ends, channel-ends}
+use Rattle.trial.specs.Flat.{channel-at, graph-of}
+use Rattle.sets.specs.Decides.{Decides}
+use Rattle.trial.specs.Links.{heads, Chain}
+use Rattle.trial.proofs.Chains.{walked-next}
+use Rattle.sets.proofs.Decided.{decided-yes, decided-no}
+use Rattle.trial.proofs.Ends.{Ends, channel-ends}
 use Rattle.graph.proofs.Lowering.{Lowering, lowering-start, lowering-fits, lowering-asks, lowering-met, lowering-lower, lowering-end}
 use Rattle.graph.proofs.skip.lower.Statement.{statement}
 use Rattle.graph.proofs.skip.lower.Tie as tie
 
 abbrev Inv-loop : tie.InvT-loop
-Inv-loop actors input output channels into h s₀ ready₀ more₀ at₀ s ready more at =
-    Lowering (graph-of actors input output channels) h at more s₀ ready₀ s ready
+Inv-loop actors input output channels into zeros h s₀ fell₀ at₀ s fell at =
+    Lowering (graph-of actors input output channels) zeros h at fell s₀ s
 
 abbrev μ-loop : tie.MeasureT-loop
-μ-loop actors input output channels into h s₀ ready₀ more₀ at₀ s ready more at = at
+μ-loop actors input output channels into zeros h s₀ fell₀ at₀ s fell at = at
 
 abbrev entry : tie.At-loop Inv-loop μ-loop → tie.Start Inv-loop μ-loop
-entry l = l .before .before .before .before .before .before
+entry l = l .before .before .before .before .before
 
 loop-holds : tie.Need-loop-holds Inv-loop μ-loop
 loop-holds c =
-    let s = c .before .before .before .before .before in
-    lowering-start (s .pre .1 .0) (s .pre .1 .1) (s .pre .0 .1 .first (s .args .h) (s .pre .0 .2))
+    let s = c .before .before .before .before in
+    lowering-start (s .pre .1) (s .pre .0 .1 .first (s .args .h) (s .pre .0 .2))
 
 -- The link that follows a channel is in the list of links.
 below : (c : tie.In-loop Inv-loop μ-loop) → let s = entry (c .before) .args in s .actors + (c .before .loop .at - 1) < length (s .into .now)
@@ -97,28 +97,26 @@ mul-s c = omega (arith, ends (number c) .near-below)
 slice-write-s : tie.Need-slice-write-s Inv-loop μ-loop
 slice-write-s c = let l = number c .before .before .before in omega (arith, ends (number c) .near-below, entry l .pre .0 .3, l .loop .inv .same-length)
 
-mul-ready : tie.Need-mul-ready Inv-loop μ-loop
-mul-ready c = omega (arith, ends (number c) .near-below)
-
-slice-write-ready : tie.Need-slice-write-ready Inv-loop μ-loop
-slice-write-ready c = let l = number c .before .before .before in omega (arith, ends (number c) .near-below, entry l .pre .0 .4, l .loop .inv .flags-length)
+with-requires : tie.Need-with-requires Inv-loop μ-loop
+with-requires c κs = let n = number c in omega (arith, ends n .near-below, entry (n .before .before .before) .pre .0 .0 .actors)
 
 loop-less : tie.Need-loop-less Inv-loop μ-loop
-loop-less c = let i = number c .before .before in omega (arith, next i .within, i .loop-test .taken)
+loop-less c = let i = number (c .before) .before .before in omega (arith, next i .within, i .loop-test .taken)
 
 loop-again : tie.Need-loop-again Inv-loop μ-loop
 loop-again c =
-    let t = c .before .before in
-    let n = number c in
+    let k = c .before in
+    let t = k .before .before in
+    let n = number k in
     let i = n .before .before in
     let l = i .before in
-    lowering-lower (ends n) (l .loop .inv) (c .count .result)
-    (c .count .ensures ∙ c .before .allowed .ensures ∙ ap (allowed (channel-at (entry l .args .channels .now) (l .loop .at - 1))) (t .before .before .before .before .of .ensures))
+    lowering-lower (ends n) (l .loop .inv) (k .count .result)
+    (k .count .ensures ∙ k .before .allowed .ensures ∙ ap (allowed (channel-at (entry l .args .channels .now) (l .loop .at - 1))) (t .before .before .before .before .of .ensures))
     (decided-yes _ (t .before .lowers .result) (t .if1 .taken) (tested (t .before)))
+    (c .with .ensures)
     (omega (arith, i .loop-test .taken))
     (next i)
     (entry l .pre .0 .3)
-    (entry l .pre .0 .4)
 
 loop-less-2 : tie.Need-loop-less-2 Inv-loop μ-loop
 loop-less-2 c = let i = c .before .before .before .before .before .before .before .before in omega (arith, next i .within, i .loop-test .taken)
@@ -131,9 +129,6 @@ loop-again-2 c =
 
 same-length : tie.Need-same-length Inv-loop μ-loop
 same-length c = c .before .loop .inv .same-length
-
-same-length-2 : tie.Need-same-length-2 Inv-loop μ-loop
-same-length-2 c = c .before .loop .inv .flags-length
 
 returns : tie.Need-returns Inv-loop μ-loop
 returns c = lowering-end (c .loop-test .left) (c .before .loop .inv)
@@ -163,12 +158,10 @@ lower-spec =
     (λ c κs. search needs)
     mul-s
     slice-write-s
-    mul-ready
-    slice-write-ready
+    with-requires
     loop-less
     loop-again
     loop-less-2
     loop-again-2
     same-length
-    same-length-2
     returns)

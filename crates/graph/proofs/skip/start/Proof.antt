@@ -1,69 +1,59 @@
 -- `graph::skip::start` meets its contract.
-use Prim.Native.Nat.{_-_, _≤_}
+use Prim.Native.Nat.{_-_, _*_, _≤_}
+use native.Mathlib.Nat.{le-trans}
 use native.Mathlib.Omega.{arith}
-use lib.ListN.{length-set}
+use lib.ListN.{getD}
 use borrow.Author.Needs.{needs}
-use Rattle.graph.specs.Flat.{vector}
-use Rattle.graph.proofs.Lowering.{High, highest-end}
-use Rattle.graph.proofs.Vectors.{Filled, filled-start, filled-turn}
+use Rattle.units.specs.Bounds.{max-repetition}
+use Rattle.trial.specs.Flat.{vector}
+use Rattle.sets.proofs.Bits.{has-small}
+use Rattle.sets.proofs.Vectors.{Filled, filled-start, filled-turn}
+use Rattle.graph.proofs.Lowering.{High, share-le, highest-end}
 use Rattle.graph.proofs.skip.start.Statement.{statement}
 use Rattle.graph.proofs.skip.start.Tie as tie
 
 abbrev Inv-loop : tie.InvT-loop
-Inv-loop actors output q s₀ v₀ s v = (v ≤ actors) × Filled (High actors (vector q)) v s₀ s
+Inv-loop actors zeros q s₀ v₀ s v = (v ≤ actors) × Filled (High actors zeros (vector q)) v s₀ s
 
 abbrev μ-loop : tie.MeasureT-loop
-μ-loop actors output q s₀ v₀ s v = actors - v
+μ-loop actors zeros q s₀ v₀ s v = actors - v
+
+abbrev entry : tie.At-loop Inv-loop μ-loop → tie.Start Inv-loop μ-loop
+entry l = l .before .before .before
 
 loop-holds : tie.Need-loop-holds Inv-loop μ-loop
 loop-holds c = (search needs, filled-start _ _)
 
-mul-of : tie.Need-mul-of Inv-loop μ-loop
-mul-of c = search needs
+has-requires : tie.Need-has-requires Inv-loop μ-loop
+has-requires c κs = search needs
 
-shared-slice-read-of : tie.Need-shared-slice-read-of Inv-loop μ-loop
-shared-slice-read-of c = search needs
+sub-of : tie.Need-sub-of Inv-loop μ-loop
+sub-of c =
+    let l = c .before .before .before in
+    omega (arith, c .has .ensures, has-small (entry l .args .zero) (l .loop .v))
 
-of-requires : tie.Need-of-requires Inv-loop μ-loop
-of-requires c κs = search needs
+-- An actor's number, or 0.
+share : (c : tie.After-has Inv-loop μ-loop) → let l = c .before .before .before in getD (entry l .args .q .now) (l .loop .v) 0 * (1 - c .has .result) ≤ max-repetition
+share c =
+    let l = c .before .before .before in
+    le-trans (share-le (getD (entry l .args .q .now) (l .loop .v) 0) (c .has .result)) (entry l .pre .3 (l .loop .v) (c .before .before .loop-test .taken))
+
+mul-of-2 : tie.Need-mul-of-2 Inv-loop μ-loop
+mul-of-2 c = omega (arith, share c)
 
 above-requires : tie.Need-above-requires Inv-loop μ-loop
-above-requires c κs = let s = c .before .before .before .before .before .before in (s .pre .0, rw (c .of .ensures) (s .pre .4 (c .before .before .before .loop .v) (c .before .before .loop-test .taken)))
-
-count-requires : tie.Need-count-requires Inv-loop μ-loop
-count-requires c κs = search needs
-
-mul-s : tie.Need-mul-s Inv-loop μ-loop
-mul-s c = search needs
-
-slice-write-s : tie.Need-slice-write-s Inv-loop μ-loop
-slice-write-s c = search needs
-
-add-v : tie.Need-add-v Inv-loop μ-loop
-add-v c = search needs
-
-loop-less : tie.Need-loop-less Inv-loop μ-loop
-loop-less c = search needs
+above-requires c κs = (search needs, rw (c .of .ensures) (share (c .before)))
 
 loop-again : tie.Need-loop-again Inv-loop μ-loop
 loop-again c =
-    let l = c .before .before .before .before .before in
+    let l = c .before .before .before .before .before .before in
     (search needs, filled-turn (c .count .result) (l .loop .inv .1) (search needs) (cc))
 
-mul-s-2 : tie.Need-mul-s-2 Inv-loop μ-loop
-mul-s-2 c = search needs
-
-slice-write-s-2 : tie.Need-slice-write-s-2 Inv-loop μ-loop
-slice-write-s-2 c = search needs
-
 same-length : tie.Need-same-length Inv-loop μ-loop
-same-length c = simp length-set (c .before .loop .inv .1 .same-length)
+same-length c = c .before .loop .inv .1 .same-length
 
 returns : tie.Need-returns Inv-loop μ-loop
-returns c =
-    let l = c .before in
-    let s = l .before .before .before in
-    highest-end (s .args .actors) (s .args .output) (vector (s .args .q .now)) (l .loop .s) (λ v k. l .loop .inv .1 .entries v (omega arith)) (omega (arith, l .loop .inv .1 .same-length))
+returns c = highest-end _ _ _ _ (λ v k. c .before .loop .inv .1 .entries v (omega arith))
 
 pub start-spec : {M : Type 1} → statement M
 start-spec =
@@ -72,17 +62,18 @@ start-spec =
     Inv-loop
     μ-loop
     loop-holds
-    mul-of
-    shared-slice-read-of
-    of-requires
+    (λ c. search needs)
+    (λ c. search needs)
+    has-requires
+    sub-of
+    mul-of-2
+    (λ c κs. search needs)
     above-requires
-    count-requires
-    mul-s
-    slice-write-s
-    add-v
-    loop-less
+    (λ c κs. search needs)
+    (λ c. search needs)
+    (λ c. search needs)
+    (λ c. search needs)
+    (λ c. search needs)
     loop-again
-    mul-s-2
-    slice-write-s-2
     same-length
     returns)

@@ -15,12 +15,6 @@ returns c =
     sym (graphs-none in-numbers _ _
     (omega (arith, List·getD-eq-default (c .before .before .args .l .now) 0 {n = 0} (omega arith))))
 
-shared-slice-read-n : tie.Need-shared-slice-read-n
-shared-slice-read-n c = search needs
-
-cast-n : tie.Need-cast-n
-cast-n c = omega (arith, c .shared-slice-known2 .given 0)
-
 returns-2 : tie.Need-returns-2
 unfolding check-list
 returns-2 c = sym (graphs-none in-numbers _ _ (c .if2 .taken))
@@ -28,18 +22,6 @@ returns-2 c = sym (graphs-none in-numbers _ _ (c .if2 .taken))
 returns-3 : tie.Need-returns-3
 unfolding check-list
 returns-3 c = sym (graphs-many in-numbers _ _ (c .before .if2 .left) (c .if3 .taken))
-
-sub-walk-numbers : tie.Need-sub-walk-numbers
-sub-walk-numbers c = search needs
-
-part-walk-numbers-start : tie.Need-part-walk-numbers-start
-part-walk-numbers-start c = search needs
-
-part-walk-numbers-end : tie.Need-part-walk-numbers-end
-part-walk-numbers-end c = search needs
-
-walk-numbers-requires : tie.Need-walk-numbers-requires
-walk-numbers-requires c κs = search needs
 
 returns-4 : tie.Need-returns-4
 unfolding check-list
@@ -52,12 +34,12 @@ list-spec =
     tie.close
     (tie.spec
     returns
-    shared-slice-read-n
-    cast-n
+    (λ c. search needs)
+    (λ c. omega (arith, c .shared-slice-known2 .given 0))
     returns-2
     returns-3
-    sub-walk-numbers
-    part-walk-numbers-start
-    part-walk-numbers-end
-    walk-numbers-requires
+    (λ c. search needs)
+    (λ c. search needs)
+    (λ c. search needs)
+    (λ c κs. search needs)
     returns-4)

@@ -32,20 +32,8 @@ module _ (s : List ℕ) (h : 4 ≤ length s) where
   unfolding check-sheet
   graphs e v = rw (le-leb _ _ h, eq-eqb _ _ e, eq-eqb _ _ v)
 
-returns : tie.Need-returns
-returns c = sym (short _ (c .if1 .taken))
-
-two-requires : tie.Need-two-requires
-two-requires c κs = search needs
-
-cast-if2 : tie.Need-cast-if2
-cast-if2 c = search needs
-
 returns-2 : tie.Need-returns-2
 returns-2 c = sym (wrong-length _ (c .before .before .if1 .left) (λ e. c .if2 .taken (c .before .two .ensures .0 ∙ e)))
-
-shared-slice-read-if3 : tie.Need-shared-slice-read-if3
-shared-slice-read-if3 c = search needs
 
 past :
     (c : tie.Else3) →
@@ -63,29 +51,8 @@ returns-3 c =
     (sym (c .before .before .before .two .ensures .0) ∙ c .before .before .if2 .left)
     (c .if3 .taken))
 
-shared-slice-read-n : tie.Need-shared-slice-read-n
-shared-slice-read-n c = search needs
-
-cast-n : tie.Need-cast-n
-cast-n c = omega (arith, c .shared-slice-known3 .given 3)
-
-returns-4 : tie.Need-returns-4
-returns-4 c = sym (past (c .before .before) ∙ graphs-none in-bytes _ _ (c .if4 .taken))
-
 returns-5 : tie.Need-returns-5
 returns-5 c = sym (past (c .before .before .before) ∙ graphs-many in-bytes _ _ (c .before .if4 .left) (c .if5 .taken))
-
-sub-walk-bytes : tie.Need-sub-walk-bytes
-sub-walk-bytes c = search needs
-
-part-walk-bytes-start : tie.Need-part-walk-bytes-start
-part-walk-bytes-start c = search needs
-
-part-walk-bytes-end : tie.Need-part-walk-bytes-end
-part-walk-bytes-end c = search needs
-
-walk-bytes-requires : tie.Need-walk-bytes-requires
-walk-bytes-requires c κs = search needs
 
 returns-6 : tie.Need-returns-6
 returns-6 c =
@@ -98,18 +65,18 @@ pub sheet-spec : {M : Type 1} → statement M
 sheet-spec =
     tie.close
     (tie.spec
-    returns
-    two-requires
-    cast-if2
+    (λ c. sym (short _ (c .if1 .taken)))
+    (λ c κs. search needs)
+    (λ c. search needs)
     returns-2
-    shared-slice-read-if3
+    (λ c. search needs)
     returns-3
-    shared-slice-read-n
-    cast-n
-    returns-4
+    (λ c. search needs)
+    (λ c. omega (arith, c .shared-slice-known3 .given 3))
+    (λ c. sym (past (c .before .before) ∙ graphs-none in-bytes _ _ (c .if4 .taken)))
     returns-5
-    sub-walk-bytes
-    part-walk-bytes-start
-    part-walk-bytes-end
-    walk-bytes-requires
+    (λ c. search needs)
+    (λ c. search needs)
+    (λ c. search needs)
+    (λ c κs. search needs)
     returns-6)

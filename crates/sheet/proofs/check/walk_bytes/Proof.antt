@@ -5,7 +5,7 @@ use native.Mathlib.Omega.{arith}
 use borrow.Author.Needs.{needs}
 use Rattle.sheet.specs.Layout.{in-bytes}
 use Rattle.sheet.proofs.GraphLayout.{fixed-bytes}
-use Rattle.sheet.proofs.Walk.{Walking, Stands, walking-start, walking-over, walking-end, met-no, met-on, met-turn}
+use Rattle.sheet.proofs.Walk.{Walking, Met, Stands, walking-start, walking-over, walking-end, met-no, met-on, met-turn}
 use Rattle.sheet.proofs.check.walk_bytes.Statement.{statement}
 use Rattle.sheet.proofs.check.walk_bytes.Tie as tie
 
@@ -15,82 +15,17 @@ Inv-loop s n k₀ at₀ k at = Walking in-bytes n s k at
 abbrev μ-loop : tie.MeasureT-loop
 μ-loop s n k₀ at₀ k at = n - k
 
-loop-holds : tie.Need-loop-holds Inv-loop μ-loop
-loop-holds c = walking-start in-bytes (c .before .args .n) (c .before .args .s .now)
+-- What the check of graph k says.
+met :
+    (c : tie.After-graph-in-bytes Inv-loop μ-loop) → let w = c .before .before .before in let b = w .before .before .args in
+    Met in-bytes (b .n) (b .s .now) (w .loop .k) (w .loop .at) (c .graph-in-bytes .result)
+met c = record { walk = c .before .before .before .loop .inv; more = c .before .before .loop-test .taken; told = c .graph-in-bytes .ensures }
 
-sub-graph-in-bytes : tie.Need-sub-graph-in-bytes Inv-loop μ-loop
-sub-graph-in-bytes c = omega arith
-
-part-graph-in-bytes-start : tie.Need-part-graph-in-bytes-start Inv-loop μ-loop
-part-graph-in-bytes-start c = search needs
-
-part-graph-in-bytes-end : tie.Need-part-graph-in-bytes-end Inv-loop μ-loop
-part-graph-in-bytes-end c = search needs
-
-graph-in-bytes-requires : tie.Need-graph-in-bytes-requires Inv-loop μ-loop
-graph-in-bytes-requires c κs = search needs
-
+-- A graph that passes stands where the loop is.
 here :
-    (c : tie.After-enum-told Inv-loop μ-loop) →
-    Stands in-bytes (c .before .before .before .before .before .before .before .args .s .now)
-    (c .before .before .before .before .before .loop .at)
-here c =
-    met-on (c .before .before .before .before .before .loop .inv)
-    (c .before .before .graph-in-bytes .ensures) (c .enum-told .given .1)
-
-enum-known-graph : tie.Need-enum-known-graph Inv-loop μ-loop
-enum-known-graph c = search needs
-
-returns : tie.Need-returns Inv-loop μ-loop
-returns c =
-    met-no (c .before .before .before .before .before .before .loop .inv)
-    (c .before .before .before .graph-in-bytes .ensures)
-    (c .before .before .before .before .before .loop-test .taken)
-    (c .before .graph .given .1)
-
-enum-told : tie.Need-enum-told Inv-loop μ-loop
-enum-told c = search needs
-
-shared-slice-read-bytes-of : tie.Need-shared-slice-read-bytes-of Inv-loop μ-loop
-shared-slice-read-bytes-of c = omega (arith, here (c .before), fixed-bytes 0)
-
-cast-bytes-of : tie.Need-cast-bytes-of Inv-loop μ-loop
-cast-bytes-of c = omega (arith, here (c .before))
-
-add-bytes-of : tie.Need-add-bytes-of Inv-loop μ-loop
-add-bytes-of c = omega (arith, here (c .before), fixed-bytes 0)
-
-shared-slice-read-bytes-of-2 : tie.Need-shared-slice-read-bytes-of-2 Inv-loop μ-loop
-shared-slice-read-bytes-of-2 c = omega (arith, here (c .before .before), fixed-bytes 0)
-
-cast-bytes-of-2 : tie.Need-cast-bytes-of-2 Inv-loop μ-loop
-cast-bytes-of-2 c = omega (arith, here (c .before .before))
-
-bytes-of-requires : tie.Need-bytes-of-requires Inv-loop μ-loop
-bytes-of-requires c κs = let h = here (c .before .before) in omega arith
-
-add-at : tie.Need-add-at Inv-loop μ-loop
-add-at c =
-    omega (arith, here (c .before .before .before), c .before .before .before .before .before .before .before .before .before)
-
-add-k : tie.Need-add-k Inv-loop μ-loop
-add-k c = omega arith
-
-loop-less : tie.Need-loop-less Inv-loop μ-loop
-loop-less c = omega arith
-
-loop-again : tie.Need-loop-again Inv-loop μ-loop
-loop-again c =
-    met-turn (c .before .before .before .before .before .before .before .before .loop .inv)
-    (c .before .before .before .before .before .graph-in-bytes .ensures)
-    (c .before .before .before .before .before .before .before .loop-test .taken)
-    (c .before .before .before .enum-told .given .1) (c .bytes-of .ensures)
-
-returns-2 : tie.Need-returns-2 Inv-loop μ-loop
-returns-2 c = sym (walking-over (c .before .before .loop .inv) (c .before .loop-test .left) (c .if1 .taken))
-
-returns-3 : tie.Need-returns-3 Inv-loop μ-loop
-returns-3 c = sym (walking-end (c .before .before .loop .inv) (c .before .loop-test .left) (c .if1 .left))
+    (c : tie.After-enum-told Inv-loop μ-loop) → let w = c .before .before .before .before .before in
+    Stands in-bytes (w .before .before .args .s .now) (w .loop .at)
+here c = met-on (met (c .before .before)) (c .enum-told .given .1)
 
 pub walk-bytes-spec : {M : Type 1} → statement M
 walk-bytes-spec =
@@ -98,23 +33,23 @@ walk-bytes-spec =
     (tie.spec
     Inv-loop
     μ-loop
-    loop-holds
-    sub-graph-in-bytes
-    part-graph-in-bytes-start
-    part-graph-in-bytes-end
-    graph-in-bytes-requires
-    enum-known-graph
-    returns
-    enum-told
-    shared-slice-read-bytes-of
-    cast-bytes-of
-    add-bytes-of
-    shared-slice-read-bytes-of-2
-    cast-bytes-of-2
-    bytes-of-requires
-    add-at
-    add-k
-    loop-less
-    loop-again
-    returns-2
-    returns-3)
+    (λ c. walking-start in-bytes (c .before .args .n) (c .before .args .s .now))
+    (λ c. omega arith)
+    (λ c. search needs)
+    (λ c. search needs)
+    (λ c κs. search needs)
+    (λ c. search needs)
+    (λ c. met-no (met (c .before .before .before)) (c .before .graph .given .1))
+    (λ c. search needs)
+    (λ c. omega (arith, here (c .before), fixed-bytes 0))
+    (λ c. omega (arith, here (c .before)))
+    (λ c. omega (arith, here (c .before), fixed-bytes 0))
+    (λ c. omega (arith, here (c .before .before), fixed-bytes 0))
+    (λ c. omega (arith, here (c .before .before)))
+    (λ c κs. let h = here (c .before .before) in omega arith)
+    (λ c. omega (arith, here (c .before .before .before), c .before .before .before .before .before .before .before .before .before))
+    (λ c. omega arith)
+    (λ c. omega arith)
+    (λ c. met-turn (met (c .before .before .before .before .before)) (c .before .before .before .enum-told .given .1) (c .bytes-of .ensures))
+    (λ c. sym (walking-over (c .before .before .loop .inv) (c .before .loop-test .left) (c .if1 .taken)))
+    (λ c. sym (walking-end (c .before .before .loop .inv) (c .before .loop-test .left) (c .if1 .left))))

@@ -17,18 +17,6 @@ Inv-loop l n k₀ k = Ranging actor-part n l k k
 abbrev μ-loop : tie.MeasureT-loop
 μ-loop l n k₀ k = n - k
 
-loop-holds : tie.Need-loop-holds Inv-loop μ-loop
-loop-holds c = ranging-start _ _ _
-
-mul-within : tie.Need-mul-within Inv-loop μ-loop
-mul-within c = search needs
-
-shared-slice-read-within : tie.Need-shared-slice-read-within Inv-loop μ-loop
-shared-slice-read-within c = search needs
-
-within-requires : tie.Need-within-requires Inv-loop μ-loop
-within-requires c κs = search needs
-
 -- The time at place k is in range or not.
 time : (c : tie.After-within Inv-loop μ-loop) → let b = c .before .before .before .before .before in
     c .within .result ≡ in-range actor-part (next-of (b .args .l .now) (c .before .before .before .loop .k))
@@ -37,19 +25,10 @@ time c = let b = c .before .before .before .before .before in c .within .ensures
 returns : tie.Need-returns Inv-loop μ-loop
 returns c = ranging-no (c .before .before .before .before .loop .inv) (c .before .before .before .loop-test .taken) (time (c .before)) (not-true _ (c .if1 .taken))
 
-add-k : tie.Need-add-k Inv-loop μ-loop
-add-k c = search needs
-
-loop-less : tie.Need-loop-less Inv-loop μ-loop
-loop-less c = search needs
-
 loop-again : tie.Need-loop-again Inv-loop μ-loop
 loop-again c =
     ranging-turn (c .before .before .before .before .loop .inv) (c .before .before .before .loop-test .taken) (time (c .before))
     (not-false _ (c .if1 .left)) (omega (arith, sizes-numbers .actor-is))
-
-returns-2 : tie.Need-returns-2 Inv-loop μ-loop
-returns-2 c = ranging-end (c .before .loop .inv) (c .loop-test .left)
 
 pub times-spec : {M : Type 1} → statement M
 times-spec =
@@ -57,12 +36,12 @@ times-spec =
     (tie.spec
     Inv-loop
     μ-loop
-    loop-holds
-    mul-within
-    shared-slice-read-within
-    within-requires
+    (λ c. ranging-start _ _ _)
+    (λ c. search needs)
+    (λ c. search needs)
+    (λ c κs. search needs)
     returns
-    add-k
-    loop-less
+    (λ c. search needs)
+    (λ c. search needs)
     loop-again
-    returns-2)
+    (λ c. ranging-end (c .before .loop .inv) (c .loop-test .left)))

@@ -15,53 +15,11 @@ Inv-loop s n list₀ k₀ list k = Parts numbers (channel-part 0) n s list₀ li
 abbrev μ-loop : tie.MeasureT-loop
 μ-loop s n list₀ k₀ list k = n - k
 
-loop-holds : tie.Need-loop-holds Inv-loop μ-loop
-loop-holds c = parts-start _ _ _
-
-mul-at : tie.Need-mul-at Inv-loop μ-loop
-mul-at c = search needs
-
-mul-to : tie.Need-mul-to Inv-loop μ-loop
-mul-to c = search needs
-
-sub-channel : tie.Need-sub-channel Inv-loop μ-loop
-sub-channel c = search needs
-
-part-channel-start : tie.Need-part-channel-start Inv-loop μ-loop
-part-channel-start c = search needs
-
-part-channel-end : tie.Need-part-channel-end Inv-loop μ-loop
-part-channel-end c = search needs
-
-mul-channel : tie.Need-mul-channel Inv-loop μ-loop
-mul-channel c = search needs
-
-sub-channel-2 : tie.Need-sub-channel-2 Inv-loop μ-loop
-sub-channel-2 c = search needs
-
-part-channel-start-2 : tie.Need-part-channel-start-2 Inv-loop μ-loop
-part-channel-start-2 c = search needs
-
-part-channel-end-2 : tie.Need-part-channel-end-2 Inv-loop μ-loop
-part-channel-end-2 c = search needs
-
-channel-requires : tie.Need-channel-requires Inv-loop μ-loop
-channel-requires c κs = (simp (length-take, length-drop) (omega arith), simp (length-take, length-drop) (omega arith))
-
-add-k : tie.Need-add-k Inv-loop μ-loop
-add-k c = search needs
-
-loop-less : tie.Need-loop-less Inv-loop μ-loop
-loop-less c = search needs
-
 loop-again : tie.Need-loop-again Inv-loop μ-loop
 loop-again c =
     let l = c .before .before .before .before .before .before in
     parts-turn unpacks (sizes-bytes .channel-is 0) (sizes-numbers .channel-is 0) (l .loop .inv) (c .before .before .before .before .before .loop-test .taken)
     (c .before .before .channel .ensures) (omega arith) (omega arith) (omega arith)
-
-same-length : tie.Need-same-length Inv-loop μ-loop
-same-length c = c .before .loop .inv .kept
 
 returns : tie.Need-returns Inv-loop μ-loop
 returns c = parts-end unpacks (c .before .loop .inv) (c .loop-test .left) (5 * c .before .before .before .before .args .n) (omega arith)
@@ -72,19 +30,19 @@ channels-spec =
     (tie.spec
     Inv-loop
     μ-loop
-    loop-holds
-    mul-at
-    mul-to
-    sub-channel
-    part-channel-start
-    part-channel-end
-    mul-channel
-    sub-channel-2
-    part-channel-start-2
-    part-channel-end-2
-    channel-requires
-    add-k
-    loop-less
+    (λ c. parts-start _ _ _)
+    (λ c. search needs)
+    (λ c. search needs)
+    (λ c. search needs)
+    (λ c. search needs)
+    (λ c. search needs)
+    (λ c. search needs)
+    (λ c. search needs)
+    (λ c. search needs)
+    (λ c. search needs)
+    (λ c κs. (simp (length-take, length-drop) (omega arith), simp (length-take, length-drop) (omega arith)))
+    (λ c. search needs)
+    (λ c. search needs)
     loop-again
-    same-length
+    (λ c. c .before .loop .inv .kept)
     returns)

@@ -1,138 +1,55 @@
 -- `unpack::graph`: the fixed part, the worst-case times, the channels.
-use lib.ListN.{length, getD, length-take, length-drop}
-use borrow.Author.Needs.{needs}
+use Prim.Native.Nat.{_+_, _*_}
 use native.Mathlib.Omega.{arith}
-use Prim.Native.Nat.{_+_, _*_, _≤_}
-use Rattle.sheet.specs.Check.{stretch}
-use Rattle.sheet.proofs.Walk.{sized-gives}
-use Rattle.sheet.proofs.Ranges.{stretch-bytes, stretch-numbers}
-use Rattle.units.specs.Bounds.{max-actors, max-channels}
-use Rattle.sheet.proofs.Parts.{unpacks, sizes-bytes, sizes-numbers, graph-fixed, graph-actors, graph-channels}
-use Rattle.sheet.proofs.unpack.graph.Tie as tie
+use lib.ListN.{getD, length-take, length-drop}
+use borrow.Author.Needs.{needs}
+use Rattle.sheet.proofs.Parts.{unpacks, sizes-bytes, sizes-numbers, Fitting, graph-fits, graph-written}
 use Rattle.sheet.proofs.unpack.graph.Statement.{statement}
+use Rattle.sheet.proofs.unpack.graph.Tie as tie
 
--- What the counts at the start of s say of the lengths.
-facts :
-    (c : tie.Start) →
-    let s = c .args .s .now in
-    (getD s 0 0 ≤ max-actors) × (getD s 1 0 ≤ max-channels) × (12 + 4 * getD s 0 0 + 8 * getD s 1 0 ≤ length s)
-    × (6 + getD s 0 0 + 5 * getD s 1 0 ≤ length (c .args .list .now))
-facts c =
-    let s = c .args .s .now in
-    let z = sized-gives s (c .pre .0) in
-    (z .actors, z .channels, omega (arith, stretch-bytes s), omega (arith, stretch-numbers s))
-
-shared-slice-read-n : tie.Need-shared-slice-read-n
-shared-slice-read-n c = omega (arith, facts (c .before .before .before))
-
-cast-n : tie.Need-cast-n
-cast-n c = omega (arith, facts (c .before .before .before))
-
-mul-at : tie.Need-mul-at
-mul-at c = omega (arith, facts (c .before .before .before))
-
-add-at : tie.Need-add-at
-add-at c = omega (arith, facts (c .before .before .before))
-
-add-to : tie.Need-add-to
-add-to c = omega (arith, facts (c .before .before .before))
-
-fixed-requires : tie.Need-fixed-requires
-fixed-requires c κs = (omega (arith, facts (c .before .before .before .before)), omega (arith, facts (c .before .before .before .before)))
-
-sub-times : tie.Need-sub-times
-sub-times c = omega (arith, facts (c .before .before .before .before .before .before .before))
-
-part-times-start : tie.Need-part-times-start
-part-times-start c = omega (arith, facts (c .before .before .before .before .before .before .before))
-
-part-times-end : tie.Need-part-times-end
-part-times-end c = search needs
-
-sub-times-2 : tie.Need-sub-times-2
-sub-times-2 c = omega (arith, facts (c .before .before .before .before .before .before .before .before))
-
-part-times-start-2 : tie.Need-part-times-start-2
-part-times-start-2 c = omega (arith, facts (c .before .before .before .before .before .before .before .before))
-
-part-times-end-2 : tie.Need-part-times-end-2
-part-times-end-2 c = search needs
+-- The counts at the start of s are within bounds, and the graph fits.
+facts : (c : tie.Start) → Fitting 12 4 8 6 1 5 (c .args .s .now) (c .args .list .now)
+facts c = graph-fits sizes-bytes sizes-numbers _ _ (c .pre)
 
 times-requires : tie.Need-times-requires
-times-requires c κs = (simp (length-take, length-drop) (omega (arith, facts (c .before .before .before .before .before .before .before .before .before))), simp (length-take, length-drop) (omega (arith, facts (c .before .before .before .before .before .before .before .before .before))))
-
-sub-channels : tie.Need-sub-channels
-sub-channels c = omega (arith, facts (c .before .before .before .before .before .before .before .before .before .before .before .before))
-
-part-channels-start : tie.Need-part-channels-start
-part-channels-start c = omega (arith, facts (c .before .before .before .before .before .before .before .before .before .before .before .before))
-
-part-channels-end : tie.Need-part-channels-end
-part-channels-end c = search needs
-
-shared-slice-read-channels : tie.Need-shared-slice-read-channels
-shared-slice-read-channels c = omega (arith, facts (c .before .before .before .before .before .before .before .before .before .before .before .before .before .before))
-
-cast-channels : tie.Need-cast-channels
-cast-channels c = omega (arith, facts (c .before .before .before .before .before .before .before .before .before .before .before .before .before .before))
-
-mul-channels : tie.Need-mul-channels
-mul-channels c = omega (arith, facts (c .before .before .before .before .before .before .before .before .before .before .before .before .before .before))
-
-sub-channels-2 : tie.Need-sub-channels-2
-sub-channels-2 c = omega (arith, facts (c .before .before .before .before .before .before .before .before .before .before .before .before .before .before))
-
-part-channels-start-2 : tie.Need-part-channels-start-2
-part-channels-start-2 c = omega (arith, facts (c .before .before .before .before .before .before .before .before .before .before .before .before .before .before))
-
-part-channels-end-2 : tie.Need-part-channels-end-2
-part-channels-end-2 c = search needs
+times-requires c κs = let h = facts (c .before .before .before .before .before .before .before .before .before) in (simp (length-take, length-drop) (omega arith), simp (length-take, length-drop) (omega arith))
 
 channels-requires : tie.Need-channels-requires
-channels-requires c κs = (simp (length-take, length-drop) (omega (arith, facts (c .before .before .before .before .before .before .before .before .before .before .before .before .before .before .before))), simp (length-take, length-drop) (omega (arith, facts (c .before .before .before .before .before .before .before .before .before .before .before .before .before .before .before))))
-
-same-length : tie.Need-same-length
-same-length c = search needs
+channels-requires c κs = let h = facts (c .before .before .before .before .before .before .before .before .before .before .before .before .before .before .before) in (simp (length-take, length-drop) (omega arith), simp (length-take, length-drop) (omega arith))
 
 returns : tie.Need-returns
-unfolding stretch
 returns c =
     let b = c .before .before .before .before .before .before .before .before .before .before .before .before .before .before .before .before .before .before in
     let s = b .args .s .now in
-    let n = getD s 0 0 in
-    let m = getD s 1 0 in
-    let z = sizes-bytes in
-    let y = sizes-numbers in
-    graph-channels unpacks z y n m s (12 + 4 * n) (5 * m) (omega arith) (omega arith)
-    (graph-actors unpacks z y n m s n (omega arith) (graph-fixed unpacks z y n m s (c .before .before .before .before .before .before .before .before .before .before .before .before .before .fixed .ensures)) (c .before .before .before .before .before .before .before .before .times .ensures))
-    (c .before .before .channels .ensures)
+    graph-written unpacks sizes-bytes sizes-numbers s (b .args .list .now) (12 + 4 * getD s 0 0) (getD s 0 0) (5 * getD s 1 0) (omega arith) (omega arith) (omega arith)
+    (c .before .before .before .before .before .before .before .before .before .before .before .before .before .fixed .ensures) (c .before .before .before .before .before .before .before .before .times .ensures) (c .before .before .channels .ensures)
 
 pub graph-spec : {M : Type 1} → statement M
 graph-spec =
     tie.close
     (tie.spec
-    shared-slice-read-n
-    cast-n
-    mul-at
-    add-at
-    add-to
-    fixed-requires
-    sub-times
-    part-times-start
-    part-times-end
-    sub-times-2
-    part-times-start-2
-    part-times-end-2
+    (λ c. omega (arith, facts (c .before .before .before)))
+    (λ c. omega (arith, facts (c .before .before .before)))
+    (λ c. omega (arith, facts (c .before .before .before)))
+    (λ c. omega (arith, facts (c .before .before .before)))
+    (λ c. omega (arith, facts (c .before .before .before)))
+    (λ c κs. let h = facts (c .before .before .before .before) in (omega arith, omega arith))
+    (λ c. omega (arith, facts (c .before .before .before .before .before .before .before)))
+    (λ c. omega (arith, facts (c .before .before .before .before .before .before .before)))
+    (λ c. search needs)
+    (λ c. omega (arith, facts (c .before .before .before .before .before .before .before .before)))
+    (λ c. omega (arith, facts (c .before .before .before .before .before .before .before .before)))
+    (λ c. search needs)
     times-requires
-    sub-channels
-    part-channels-start
-    part-channels-end
-    shared-slice-read-channels
-    cast-channels
-    mul-channels
-    sub-channels-2
-    part-channels-start-2
-    part-channels-end-2
+    (λ c. omega (arith, facts (c .before .before .before .before .before .before .before .before .before .before .before .before)))
+    (λ c. omega (arith, facts (c .before .before .before .before .before .before .before .before .before .before .before .before)))
+    (λ c. search needs)
+    (λ c. omega (arith, facts (c .before .before .before .before .before .before .before .before .before .before .before .before .before .before)))
+    (λ c. omega (arith, facts (c .before .before .before .before .before .before .before .before .before .before .before .before .before .before)))
+    (λ c. omega (arith, facts (c .before .before .before .before .before .before .before .before .before .before .before .before .before .before)))
+    (λ c. omega (arith, facts (c .before .before .before .before .before .before .before .before .before .before .before .before .before .before)))
+    (λ c. omega (arith, facts (c .before .before .before .before .before .before .before .before .before .before .before .before .before .before)))
+    (λ c. search needs)
     channels-requires
-    same-length
+    (λ c. search needs)
     returns)

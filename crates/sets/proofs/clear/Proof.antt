@@ -1,0 +1,53 @@
+-- `sets::clear` meets its contract.
+use mathlib.Core.Path.{_≡_, refl}
+use Prim.Native.Nat.{_-_, _≤_}
+use native.Mathlib.Omega.{arith}
+use borrow.Author.Needs.{needs}
+use Rattle.sets.proofs.Vectors.{Filled, filled-start, filled-turn}
+use Rattle.sets.proofs.clear.Statement.{statement}
+use Rattle.sets.proofs.clear.Tie as tie
+
+abbrev Inv-loop : tie.InvT-loop
+Inv-loop n words₀ i₀ words i = (i ≤ n) × Filled (λ _ m. m ≡ 0) i words₀ words
+
+abbrev μ-loop : tie.MeasureT-loop
+μ-loop n words₀ i₀ words i = n - i
+
+loop-holds : tie.Need-loop-holds Inv-loop μ-loop
+loop-holds c = (search needs, filled-start _ _)
+
+mul-words : tie.Need-mul-words Inv-loop μ-loop
+mul-words c = search needs
+
+slice-write-words : tie.Need-slice-write-words Inv-loop μ-loop
+slice-write-words c = search needs
+
+add-i : tie.Need-add-i Inv-loop μ-loop
+add-i c = search needs
+
+loop-less : tie.Need-loop-less Inv-loop μ-loop
+loop-less c = search needs
+
+loop-again : tie.Need-loop-again Inv-loop μ-loop
+loop-again c = (search needs, filled-turn 0 (c .before .loop .inv .1) (search needs) refl)
+
+same-length : tie.Need-same-length Inv-loop μ-loop
+same-length c = search needs
+
+returns : tie.Need-returns Inv-loop μ-loop
+returns c = λ v l. c .before .loop .inv .1 .entries v (omega arith)
+
+pub clear-spec : {M : Type 1} → statement M
+clear-spec =
+    tie.close
+    (tie.spec
+    Inv-loop
+    μ-loop
+    loop-holds
+    mul-words
+    slice-write-words
+    add-i
+    loop-less
+    loop-again
+    same-length
+    returns)

@@ -1,0 +1,7 @@
+pub mod Ends
+pub mod Places
+pub mod Chains
+pub mod Firing
+pub mod Toward
+pub mod Keeping
+pub mod Knots
