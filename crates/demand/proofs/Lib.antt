@@ -4,7 +4,4 @@ pub mod Costs
 pub mod Multiples
 pub mod Writes
 pub mod TaskLists
-pub mod Busy
-pub mod End
-pub mod Pieces
-pub mod Search
+pub mod Weights

@@ -3,12 +3,8 @@ use Prim.Native.Nat.{ℕ, _+_, _<_, _≤_}
 use Rattle.units.specs.Bounds.{max-ticks}
 use Rattle.units.specs.declared.SomeTicks.{SomeTicks}
 use Rattle.units.specs.declared.SomeTicks.the-variants.{Within, Outside}
-use Rattle.edf.specs.Demand.{Works, LateLength}
-use Rattle.edf.specs.Demand.{Within as AllWithin}
 use Rattle.edf.specs.Frame.{Frame}
 use Rattle.edf.proofs.Frame.{LeastMultiple, NoneBelow}
-use Rattle.demand.specs.declared.Lateness.{Lateness}
-use Rattle.demand.specs.declared.Lateness.the-variants.{At, Never}
 
 -- The least common multiple of a and b, or that it is above the bound of a frame.
 abbrev pub MultipleAnswer : ℕ → ℕ → SomeTicks → Type 0
@@ -19,8 +15,3 @@ MultipleAnswer a b Outside = NoneBelow a b (max-ticks + 1)
 abbrev pub FrameAnswer : ℕ → (ℕ → ℕ) → SomeTicks → Type 0
 FrameAnswer n period (Within f) = Frame n period (f .n) × (f .n ≤ max-ticks)
 FrameAnswer n period Outside = (F : ℕ) → Frame n period F → max-ticks < F
-
--- 01, answer 21: the smallest late length, or that demand is within every length.
-abbrev pub LateAnswer : Works → Lateness → Type 0
-LateAnswer ws (At t) = LateLength ws (t .n)
-LateAnswer ws Never = AllWithin ws

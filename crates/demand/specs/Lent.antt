@@ -1,10 +1,11 @@
 -- What the engine of demand is handed: the graphs' periods, deadlines and actor counts, three numbers each, and for each graph a
 -- row of `room` places in the lists of worst-case times, repetition numbers and skips.
+use mathlib.Core.Path.{_≡_}
 use mathlib.Core.List.{List}
 use Prim.Native.Nat.{ℕ, _+_, _*_, _/_, _<_, _≤_}
 use lib.ListN.{length, getD}
 use Rattle.units.specs.Bounds.{engine-actors}
-use Rattle.edf.specs.Demand.{Work, Works}
+use Rattle.edf.specs.Demand.{Work, Works, iteration}
 use Rattle.edf.specs.Bounds.{AllBounded}
 
 abbrev pub work-at : List ℕ → List ℕ → List ℕ → List ℕ → ℕ → ℕ → Work
@@ -34,3 +35,8 @@ pub record There (times q s : List ℕ) (at : ℕ) : Type 0 where
   pub time : at < length times
   pub repetition : at < length q
   pub skip : at < length s
+
+-- Each graph's weight is the time of its iteration.
+pub record Weighed (ws : Works) (weights : List ℕ) : Type 0 where
+  pub weights-there : ws .graphs ≤ length weights
+  pub weight : (i : ℕ) → i < ws .graphs → getD weights i 0 ≡ iteration (ws .work i)

@@ -1,5 +1,3 @@
 pub mod Lent
 pub mod Answers
 pub mod Written
-pub mod Search
-pub mod Pieces

@@ -4,7 +4,7 @@ ghost use Prim.Native.Nat.{ℕ, _*_, _/_, _<_, _≤_};
 ghost use lib.ListN.{length, getD};
 ghost use Rattle.units.specs.Bounds.{max-ticks};
 ghost use Rattle.edf.specs.Demand.{iteration, load};
-ghost use Rattle.demand.specs.Lent.{work-at, works-of, Lent};
+ghost use Rattle.demand.specs.Lent.{work-at, works-of, Lent, Weighed};
 ghost use Rattle.demand.specs.Answers.{FrameAnswer, MultipleAnswer};
 use super::length::iteration_time;
 use units::Firings;
@@ -60,6 +60,19 @@ pub fn frame(heads: &[u64]) -> SomeTicks
     SomeTicks::Within(so_far)
 }
 
+// Each graph's weight, the time of its iteration.
+pub fn weigh(heads: &[u64], times: &[u64], q: &[u64], s: &[u64], room: usize, weight: &mut [u64])
+    requires { ⌜ Lent (now heads) (now times) (now q) (now s) room × (length (now heads) / 3 ≤ length (now weight)) ⌝ }
+    ensures { λ _. ⌜ Weighed (works-of (now (heads .entry)) (now (times .entry)) (now (q .entry)) (now (s .entry)) room) (now (weight .exit)) ⌝ }
+{
+    let n = heads.len() / 3;
+    let mut i = 0;
+    while i < n {
+        weight[i] = iteration_time(heads, times, q, s, room, i).count();
+        i += 1;
+    }
+}
+
 // What graph i adds to the frame load.
 fn graph_load(
     heads: &[u64],
@@ -67,14 +80,15 @@ fn graph_load(
     q: &[u64],
     s: &[u64],
     room: usize,
+    weight: &[u64],
     i: usize,
     frame: Ticks,
 ) -> Ticks
-    requires { ⌜ Lent (now heads) (now times) (now q) (now s) room × (i < length (now heads) / 3) × (frame .n ≤ max-ticks) ⌝ }
+    requires { ⌜ Lent (now heads) (now times) (now q) (now s) room × (i < length (now heads) / 3) × (frame .n ≤ max-ticks) × Weighed (works-of (now heads) (now times) (now q) (now s) room) (now weight) ⌝ }
     ensures { λ r. ⌜ r .n ≡ frame .n / getD (now (heads .entry)) (3 * i) 0 * iteration (work-at (now (heads .entry)) (now (times .entry)) (now (q .entry)) (now (s .entry)) room i) ⌝ }
 {
     let iterations = Firings::of(frame.count() / heads[3 * i]);
-    iteration_time(heads, times, q, s, room, i).times(iterations)
+    Ticks::of(weight[i]).times(iterations)
 }
 
 // 01, Frame load.
@@ -84,16 +98,17 @@ pub fn frame_load(
     q: &[u64],
     s: &[u64],
     room: usize,
+    weight: &[u64],
     frame: Ticks,
 ) -> Ticks
-    requires { ⌜ Lent (now heads) (now times) (now q) (now s) room × (frame .n ≤ max-ticks) ⌝ }
+    requires { ⌜ Lent (now heads) (now times) (now q) (now s) room × (frame .n ≤ max-ticks) × Weighed (works-of (now heads) (now times) (now q) (now s) room) (now weight) ⌝ }
     ensures { λ r. ⌜ r .n ≡ load (works-of (now (heads .entry)) (now (times .entry)) (now (q .entry)) (now (s .entry)) room) (frame .n) ⌝ }
 {
     let n = heads.len() / 3;
     let mut sum = Ticks::of(0);
     let mut i = 0;
     while i < n {
-        sum = sum.plus(graph_load(heads, times, q, s, room, i, frame));
+        sum = sum.plus(graph_load(heads, times, q, s, room, weight, i, frame));
         i += 1;
     }
     sum

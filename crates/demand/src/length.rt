@@ -1,4 +1,4 @@
-// 01, Blocks due and Demand.
+// 01, Fewest firings, Blocks due and Demand.
 ghost use mathlib.Core.Path.{_≡_};
 ghost use Prim.Native.Nat.{_+_, _-_, _*_, _/_, _^_, _<_, _≤_};
 ghost use lib.ListN.{length, getD};
@@ -6,9 +6,16 @@ ghost use Rattle.units.specs.Bounds.{max-ticks, max-outputs};
 ghost use Rattle.edf.specs.Arrivals.{due};
 ghost use Rattle.edf.specs.Demand.{cost, demand, iteration};
 ghost use Rattle.demand.specs.Lent.{work-at, works-of, Lent, There};
-use graph::skip::fewest_firings;
 use units::Firings;
 use units::Ticks;
+
+// 01, Fewest firings for K outputs: K × repetition − skip, or 0 where that is negative.
+pub fn fewest_firings(k: Firings, repetition: Firings, skip: Firings) -> Firings
+    requires { ⌜ k .n * repetition .n < 2 ^ 64 ⌝ }
+    ensures { λ r. ⌜ r .n ≡ k .n * repetition .n - skip .n ⌝ }
+{
+    k.times(repetition).less(skip)
+}
 
 // 01, Blocks due in a length.
 pub fn blocks(period: Ticks, deadline: Ticks, length: Ticks) -> Firings

@@ -1,4 +1,2 @@
-pub mod Drawing
 pub mod Reaching
-pub mod Growth
 pub mod Lowering

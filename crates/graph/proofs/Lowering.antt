@@ -2,12 +2,14 @@
 -- is met.
 use mathlib.Core.Path.{_≡_, refl, sym, ap, _∙_, subst, subst₂, subst⁻¹}
 use mathlib.Core.Logic.{⊎-elim, _≢_}
+use mathlib.Core.Bool.{Bool, true, false, not, cond}
 use mathlib.Core.List.{List}
-use Prim.Native.Nat.{ℕ, _+_, _*_, _-_, _^_, _<_, _≤_, max, zero-le}
+use Prim.Native.Nat.{ℕ, _+_, _*_, _-_, _^_, _<_, _≤_, min, max, zero-le}
 use native.Mathlib.Nat.{le-refl, le-trans, mul-le-mul, div-lt-iff-lt-mul, le-div-iff-mul-le, eq-zero-or-pos}
 use native.Mathlib.Omega.{arith}
 use lib.ListN.{length, getD, set, length-set}
-use lib.Dec.{ltb}
+use lib.Dec.{eqb, ltb}
+use borrow.Author.Tests.{eqb-true}
 use Rattle.units.specs.Bounds.{engine-actors, max-tokens, max-repetition}
 use Rattle.sdf.specs.Graph.{Channel, Graph, Reached}
 use Rattle.sdf.specs.Skip.{allowed, Skips}
@@ -24,9 +26,9 @@ use Rattle.sets.specs.Sets.{has, word, Below, Covers, Put}
 use Rattle.sets.proofs.Bits.{has-none, has-small, has-bit, has-same, put-less}
 use Rattle.sets.proofs.Decided.{decides-same, decides-less}
 use Rattle.sets.proofs.Vectors.{vector-set}
-use Rattle.graph.specs.Repetition.{Repeats}
-use Rattle.graph.specs.Skip.{max-skip, Highest, Falling, Meets, Watched, Lowered}
-use Rattle.graph.specs.Words.{Words, Unskipped}
+use Rattle.repeat.specs.Repetition.{Repeats}
+use Rattle.graph.specs.Skip.{max-skip, Highest, Falling, Meets, Watched, Entries, Lowered}
+use Rattle.repeat.specs.Words.{Words, Unskipped}
 
 -- A share of 0 or 1 is at most the whole.
 pub share-le : (a b : ℕ) → a * (1 - b) ≤ a
@@ -202,22 +204,37 @@ lowering-end {g} {zeros} {h} {at} {fell} {before} {now} l p = record {
       (eq-or-ne head h);
 }
 
--- Where all tails of the channels into h are in the set at 0 none can fall.
-pub lowered-none : {g : Graph} {zeros h left : ℕ} {s words between : List ℕ} → Drawn g → Falling g zeros (vector s) → Words g words between
-    → ((v : ℕ) → has left v ≡ has (word words 1 h) v - has zeros v) → left ≡ 0 → Lowered g zeros h 0 s s
-lowered-none {g} {zeros} {h} {left} {s} {words} drawn f drawing minus none = record {
-  falling = f;
-  actors = λ v o. absurd (omega (arith, has-none v));
-  less = λ l. absurd (omega arith);
-  still = λ e. refl;
-  watched = λ ready w d m z.
-      let t = g .channel d .tail in ⊎-elim
-      (λ e.
-      let in-tails : has (word words 1 h) t ≡ 1 = rw e at (drawing .tails .holds d m refl) in
-      let in-zero : has zeros t ≡ 1 = omega (arith, minus t, ap (λ (x : ℕ). has x t) none, has-none t, has-small zeros t) in
-      rw (f .none t (drawn .sound .tail d m) in-zero) zero-le)
-      (λ n. w d n m (omega arith))
-      (eq-or-ne (g .channel d .head) h);
+-- Actors below n, among them every one with a tail outside the set at 0.
+pub record Entering (words : List ℕ) (zeros n set : ℕ) : Type 0 where
+  pub below : Below set n
+  pub inside : (h : ℕ) → h < n → has set h ≡ 0 → (t : ℕ) → has (word words 1 h) t ≡ 1 → has zeros t ≡ 1
+
+-- None is below 0.
+pub entering-start : {words : List ℕ} {zeros : ℕ} → Entering words zeros 0 0
+entering-start = record { below = λ v o. absurd (omega (arith, has-none v)); inside = λ h l. absurd (omega arith) }
+
+-- One actor more.
+pub entering-turn : {words : List ℕ} {zeros n set new : ℕ} (left : ℕ) → Entering words zeros n set → ((t : ℕ) → has left t ≡ has (word words 1 n) t - has zeros t)
+    → Put set n (max (has set n) (cond (not (eqb left 0)) 1 0)) new → Entering words zeros (n + 1) new
+entering-turn {words} {zeros} {n} {set} {new} left p minus put = record {
+  below = λ v o. ⊎-elim (λ e. omega arith) (λ d. omega (arith, p .below v (sym (put .there v d) ∙ o))) (eq-or-ne v n);
+  inside = λ h l z t o. ⊎-elim
+      (λ (e : h ≡ n). empty (eqb left 0) refl (omega (arith, ap (has new) e, put .here)) t (rw e at o))
+      (λ d. p .inside h (omega arith) (sym (put .there h d) ∙ z) t o)
+      (eq-or-ne h n);
+}
+  where
+    empty : (b : Bool) → eqb left 0 ≡ b → cond (not (eqb left 0)) 1 0 < 1 → (t : ℕ) → has (word words 1 n) t ≡ 1 → has zeros t ≡ 1
+    empty true e z t o = omega (arith, minus t, ap (λ (x : ℕ). has x t) (eqb-true left 0 e), has-none t, has-small zeros t)
+    empty false e z t o = absurd (omega (arith, ap {B = ℕ} (λ (b : Bool). cond (not b) 1 0) e))
+
+-- All are looked at: those found that are in the set at 0.
+pub entering-end : {g : Graph} {words between : List ℕ} {zeros n set r : ℕ} → Drawn g → Words g words between → n ≤ g .actors → g .actors ≤ n → Entering words zeros n set
+    → ((v : ℕ) → has r v ≡ min (has set v) (has zeros v)) → Entries g zeros r
+entering-end {g} {words} {between} {zeros} {n} {set} {r} drawn drawing most all p common = record {
+  actors = λ v o. omega (arith, p .below v (omega (arith, common v, has-small set v, has-small zeros v)));
+  inside = λ d l o z. let h = g .channel d .head in
+      p .inside h (omega (arith, drawn .sound .head d l)) (omega (arith, common h)) (g .channel d .tail) (drawing .tails .holds d l refl);
 }
 
 -- The test without a division.
@@ -232,6 +249,17 @@ pub record Settling (g : Graph) (zeros todo : ℕ) (s : List ℕ) : Type 0 where
   pub falling : Falling g zeros (vector s)
   pub watched : (d : ℕ) → Watched g (vector s) (has todo) d
   pub actors : Below todo (g .actors)
+
+-- In the first vector a channel into the set at 0 is met too where its tail is in the set.
+pub settling-start : {g : Graph} {zeros r : ℕ} {s : List ℕ} → Drawn g → Falling g zeros (vector s) → ((d : ℕ) → Watched g (vector s) (has zeros) d) → Entries g zeros r → Settling g zeros r s
+settling-start {g} {zeros} {r} {s} drawn f w e = record {
+  falling = f;
+  watched = λ d l z. ⊎-elim
+      (λ n. w d l n)
+      (λ o. let t = g .channel d .tail in rw (f .none t (drawn .sound .tail d l) (e .inside d l o z)) zero-le)
+      (has-bit zeros (g .channel d .head));
+  actors = e .actors;
+}
 
 -- The channels into one of them are looked at.
 pub record Looks (g : Graph) (zeros h todo less fell todo' : ℕ) (before after : List ℕ) : Type 0 where

@@ -19,10 +19,10 @@ use Rattle.sets.proofs.Bits.{has-none, has-small, has-bit}
 use Rattle.sets.proofs.Gather.{gather-below}
 use Rattle.sets.proofs.Decided.{decides-same}
 use Rattle.trial.specs.Flat.{Drawn}
-use Rattle.graph.specs.declared.repetition.Numbering.{Numbering}
-use Rattle.graph.specs.declared.repetition.Numbering.the-variants.{Found, Unbalanced, Unreached}
-use Rattle.graph.specs.Repetition.{Repetition-answer, Balance-answer}
-use Rattle.graph.specs.Words.{tied, keeps, Words, Kept-back, AllFrom, AllTo, Unskipped}
+use Rattle.repeat.specs.declared.repetition.Numbering.{Numbering}
+use Rattle.repeat.specs.declared.repetition.Numbering.the-variants.{Found, Unbalanced, Unreached}
+use Rattle.repeat.specs.Repetition.{Repetition-answer, Balance-answer}
+use Rattle.repeat.specs.Words.{tied, keeps, Words, Kept-back, AllFrom, AllTo, Unskipped}
 
 -- What holds at v, and of each that is led to where it holds of the one before, holds at the end of a trail from v.
 pub trail-keeps : (set : ℕ → ℕ) (P : ℕ → Type 0) → ((v w : ℕ) → P v → has (set v) w ≡ 1 → P w) → (v : ℕ) (trail : List ℕ) (w : ℕ) → P v → Trail set v trail w → P w

@@ -1,4 +1,2 @@
-pub mod Words
-pub mod Repetition
 pub mod Skip
 pub mod Judged

@@ -37,6 +37,11 @@ Meets g s d = s (g .channel d .tail) ≤ allowed (g .channel d) (s (g .channel d
 abbrev pub Watched : Graph → (s ready : ℕ → ℕ) → ℕ → Type 0
 Watched g s ready d = d < g .channels → ready (g .channel d .head) ≡ 0 → Meets g s d
 
+-- Actors, among them every one of the set at 0 with a tail outside it: a channel into another of the set comes from the set.
+pub record Entries (g : Graph) (zero entries : ℕ) : Type 0 where
+  pub actors : (v : ℕ) → has entries v ≡ 1 → v < g .actors
+  pub inside : (d : ℕ) → d < g .channels → has zero (g .channel d .head) ≡ 1 → has entries (g .channel d .head) ≡ 0 → has zero (g .channel d .tail) ≡ 1
+
 -- What is left after the channels into h have lowered their tails: of those in the set `fell` the entry is less, and every channel is
 -- met but those into actors that were ready, h not among them, or have fallen.
 pub record Lowered (g : Graph) (zero h fell : ℕ) (before after : List ℕ) : Type 0 where

@@ -1,4 +1,4 @@
-// The numbers of one graph: reach, repetition numbers, trial run, at rest, skips, fewest firings (01, answers 7 to 11). It knows
+// The numbers of one graph: reach, repetition numbers, trial run, at rest, skips (01, answers 7 to 11). It knows
 // no sheet, and takes up to 64 actors and 256 channels: a set of actors is the bits of one word.
 ghost use mathlib.Core.Path.{_≡_};
 ghost use Prim.Native.Nat.{_+_, _*_, _/_, _<_, _≤_};
@@ -6,17 +6,17 @@ ghost use lib.ListN.{length};
 ghost use Rattle.sets.specs.Decides.{Decides};
 ghost use Rattle.sdf.specs.Order.{AtRest};
 ghost use Rattle.trial.specs.Flat.{graph-of, Drawn};
-ghost use Rattle.graph.specs.Words.{Words, Kept-back, Unskipped};
-ghost use Rattle.graph.specs.Repetition.{Balance-answer};
+ghost use Rattle.repeat.specs.Words.{Words, Kept-back, Unskipped};
+ghost use Rattle.repeat.specs.Repetition.{Balance-answer};
 ghost use Rattle.graph.specs.Judged.{Judged};
-use repetition::Numbering;
+use repeat::draw;
+use repeat::repetition;
+use repeat::repetition::Numbering;
 use sets::covers;
 use sets::with;
 
-mod draw; // who leads to whom
 pub mod reach; // 01, answer 7
-pub mod repetition; // 01, answers 8 and 9
-pub mod skip; // skips and fewest firings
+pub mod skip; // 01, Skip numbers
 
 // 01, answers 7 to 11, or none of them.
 pub enum GraphAnswer {
@@ -130,7 +130,7 @@ pub fn numbers(
     if q[output] != 1 {
         return GraphAnswer::NotOnce;
     }
-    if !trial::knot::lives(
+    if !knot::lives(
         actors,
         input,
         output,

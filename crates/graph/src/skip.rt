@@ -1,6 +1,6 @@
 // 01, Skip numbers: found from above, in one vector. Every actor starts at more than it can skip, those that cannot skip at 0, and
 // each channel lowers its tail to what it allows until none does. The channels into an actor are looked at again only after its
-// skip fell. And 01, Fewest firings.
+// skip fell.
 ghost use mathlib.Core.Path.{_≡_};
 ghost use Prim.Native.Nat.{ℕ, _+_, _*_, _-_, _/_, _^_, _<_, _≤_};
 ghost use lib.ListN.{length, getD};
@@ -9,11 +9,12 @@ ghost use Rattle.sdf.specs.Graph.{Reached};
 ghost use Rattle.sdf.specs.Skip.{Skips, allowed as allows};
 ghost use Rattle.trial.specs.Flat.{channel-at, graph-of, vector, Drawn};
 ghost use Rattle.sets.specs.Decides.{Decides};
-ghost use Rattle.graph.specs.Repetition.{Repeats};
+ghost use Rattle.repeat.specs.Repetition.{Repeats};
 ghost use Rattle.trial.specs.Links.{heads, Linked};
-ghost use Rattle.graph.specs.Skip.{Highest, Falling, Lowered};
-ghost use Rattle.graph.specs.Words.{Words, Unskipped};
-use super::draw::TAILS;
+ghost use Rattle.graph.specs.Skip.{Highest, Falling, Entries, Lowered};
+ghost use Rattle.repeat.specs.Words.{Words, Unskipped};
+use repeat::draw::TAILS;
+use sets::common;
 use sets::covers;
 use sets::greatest;
 use sets::has;
@@ -107,30 +108,29 @@ fn lower(
     fell
 }
 
-// The same, but where all tails are in `zero` none can fall.
-fn relax(
+// Those of `zero` with a tail outside it: only the channels into them may lower a tail at first.
+fn entries(
     actors: usize,
     input: usize,
     output: usize,
     channels: &[u32],
     words: &[u64],
     between: &[u8],
-    into: &[u64],
     zero: u64,
-    h: usize,
-    s: &mut [u64],
 ) -> u64
-    requires { ⌜ (Drawn (graph-of actors input output (now channels))) × Linked (heads (now channels)) actors (length (now channels) / 5) (now into) × (h < actors) × (actors ≤ length (now s)) ⌝ }
-    requires { ⌜ Falling (graph-of actors input output (now channels)) zero (vector (now s)) × Words (graph-of actors input output (now channels)) (now words) (now between) ⌝ }
-    ensures { λ r. ⌜ Lowered (graph-of actors input output (now (channels .entry))) zero h r (now (s .entry)) (now (s .exit)) ⌝ }
+    requires { ⌜ (Drawn (graph-of actors input output (now channels))) × Words (graph-of actors input output (now channels)) (now words) (now between) ⌝ }
+    ensures { λ r. ⌜ Entries (graph-of actors input output (now (channels .entry))) zero r ⌝ }
 {
-    if minus(words[3 * h + TAILS], zero) == 0 {
-        return 0;
+    let mut set = 0;
+    let mut v = 0;
+    while v < actors {
+        set = with(set, v, minus(words[3 * v + TAILS], zero) != 0);
+        v += 1;
     }
-    lower(actors, input, output, channels, into, zero, h, s)
+    common(set, zero)
 }
 
-// From the start on only the channels into `zero` may lower a tail. `into` is lent to work in.
+// `into` is lent to work in.
 pub fn skips(
     actors: usize,
     input: usize,
@@ -152,29 +152,10 @@ pub fn skips(
         return;
     }
     link(actors, channels, 1, into);
-    let mut todo = zero;
+    let mut todo = entries(actors, input, output, channels, words, between, zero);
     while todo != 0 {
         let h = greatest(todo);
-        let fell = relax(
-            actors,
-            input,
-            output,
-            channels,
-            words,
-            between,
-            into,
-            zero,
-            h,
-            s,
-        );
+        let fell = lower(actors, input, output, channels, into, zero, h, s);
         todo = joined(without(todo, h), fell);
     }
-}
-
-// 01, Fewest firings for K outputs: K × repetition − skip, or 0 where that is negative.
-pub fn fewest_firings(k: Firings, repetition: Firings, skip: Firings) -> Firings
-    requires { ⌜ k .n * repetition .n < 2 ^ 64 ⌝ }
-    ensures { λ r. ⌜ r .n ≡ k .n * repetition .n - skip .n ⌝ }
-{
-    k.times(repetition).less(skip)
 }

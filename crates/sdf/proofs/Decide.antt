@@ -15,8 +15,8 @@ use Rattle.sdf.specs.Skip.{Skips}
 use Rattle.sdf.specs.Sum.{sumTo}
 use Rattle.sdf.proofs.Numbers.{lt-or-ge, eq-or-ne, chosen}
 use Rattle.sdf.proofs.Sum.{sum-mono, term-le-sum}
-use Rattle.sdf.proofs.Settle.{settle, first-fails, put, put-keeps, sum-raise}
-use Rattle.sdf.proofs.Order.{one-more, firings-append, legal-append}
+use Rattle.sdf.proofs.Settle.{settle, first-fails}
+use Rattle.sdf.proofs.Runs.{Run, missing, go-on}
 use Rattle.sdf.proofs.Trial.{stuck}
 use Rattle.sdf.proofs.Balance.{balances-or-not, repetition-one}
 use Rattle.sdf.proofs.Skip.{skips-exist, skips-one}
@@ -136,12 +136,6 @@ module _ (g : Graph) (sound : Sound g) (x : ℕ → ℕ) where
             greatest = λ y a v l. rw (same v l) (k .greatest y a v l);
           }
 
--- An order on its way: legal, and no actor fires more often than q.
-record Run (g : Graph) (q : ℕ → ℕ) : Type 0 where
-  order : List ℕ
-  legal : Legal g (initial g) order
-  within : AtMost g (λ v. firings v order) q
-
 -- v is short of its number and enabled.
 abbrev Goes-on : (g : Graph) (q : ℕ → ℕ) → Run g q → ℕ → Type 0
 Goes-on g q r v = (firings v (r .order) < q v) × Enabled g (after g (initial g) (r .order)) v
@@ -149,32 +143,11 @@ Goes-on g q r v = (firings v (r .order) < q v) × Enabled g (after g (initial g)
 abbrev Ended : (g : Graph) (q : ℕ → ℕ) → Run g q → Type 0
 Ended g q r = (v : ℕ) → v < g .actors → ¬ Goes-on g q r v
 
--- How many firings are missing.
-abbrev missing : (g : Graph) (q : ℕ → ℕ) → Run g q → ℕ
-missing g q r = sumTo q (g .actors) - sumTo (λ v. firings v (r .order)) (g .actors)
-
 module _ (g : Graph) (q : ℕ → ℕ) where
-  go-on : (r : Run g q) (v : ℕ) → v < g .actors → Goes-on g q r v → (t : Run g q) × (missing g q t < missing g q r)
-  unfolding Legal firings
-  go-on r v l (short, enabled) =
-      let x : ℕ → ℕ = λ w. firings w (r .order) in
-      let y : ℕ → ℕ = λ w. firings w (r .order ++ (v ∷ [])) in
-      let more : AtMost g x y = λ w m. omega (arith, firings-append w (r .order) (v ∷ [])) in
-      let within : AtMost g y q = λ w m. omega (arith, firings-append w (r .order) (v ∷ []), one-more x q v w short (r .within w m)) in
-      let up : x v < y v = omega (arith, firings-append v (r .order) (v ∷ []), chosen {a = v} 1 0 refl) in (
-        record { order = r .order ++ (v ∷ []); legal = legal-append g (initial g) (r .order) (v ∷ []) (r .legal) (l, enabled, tt); within = within },
-        omega (
-          arith,
-          sum-raise x v (y v) (g .actors) l up,
-          sum-mono (put x v (y v)) y (g .actors) (λ w m. put-keeps (λ w n. n ≤ y w) x v (y v) (le-refl (y v)) w (more w m)),
-          sum-mono y q (g .actors) within,
-        ),
-      )
-
   step : (r : Run g q) → Ended g q r ⊎ ((t : Run g q) × (missing g q t < missing g q r))
   step r =
       let goes-on : (v : ℕ) → Decided (Goes-on g q r v) = λ v. both-or-not (le-or-not (suc (firings v (r .order))) (q v)) (enabled-or-not g (after g (initial g) (r .order)) v) in
-      elim (first-fails (λ v. ⊎-swap (goes-on v)) (g .actors)) [ inl all ↦ inl all | inr f ↦ inr (go-on r (f .0) (f .1) (f .2)) ]
+      elim (first-fails (λ v. ⊎-swap (goes-on v)) (g .actors)) [ inl all ↦ inl all | inr f ↦ inr (go-on g q r (f .0) (f .1) (f .2 .0) (f .2 .1)) ]
 
 -- 01, Deadlock: some legal order fires each actor q times, or none does; the trial run tells which.
 unfoldable pub lives-or-not : (g : Graph) → Sound g → (q : ℕ → ℕ) → Lives g q ⊎ Deadlock g q

@@ -15,7 +15,7 @@ use Rattle.sdf.specs.Balance.{Balanced}
 use Rattle.sdf.specs.Skip.{Skippable, Skips, fewest}
 use Rattle.sdf.proofs.Numbers.{lt-or-ge, eq-or-ne, sub-mul, passed}
 use Rattle.sdf.proofs.Allowed.{allowed-product}
-use Rattle.sdf.proofs.Order.{one-more, removed-times, added-times, removed-there, tokens-law, iterations}
+use Rattle.sdf.proofs.Order.{one-more, removed-times, added-times, removed-there, tokens-law, lives-times}
 
 -- Where x and y meet a channel's inequality, what they leave of K iterations meets it with the ends exchanged.
 short-of : (K tokens q r x p u y : ℕ) → q * r ≡ p * u → y * u ≤ tokens + x * r → (K * q - x) * r ≤ tokens + (K * p - y) * u
@@ -146,7 +146,7 @@ pub fewest-together : {g : Graph} {q s : ℕ → ℕ} → Sound g → Balanced g
     → (order : List ℕ) × Legal g (initial g) order × Fires g (fewest q s K) order
 unfolding fewest
 fewest-together {g} {q} {s} sound balanced lives skippable K =
-    let (order, legal, fires) = iterations sound balanced lives K in
+    let (order, legal, fires) = lives-times sound q (balanced .equal) lives K in
     let m = fewest q s K in (
       keep m order,
       keep-legal g m (initial g) (initial g) order (fewest-kept sound balanced skippable K) legal,

@@ -3,6 +3,7 @@ pub mod Sum
 pub mod Settle
 pub mod Allowed
 pub mod Order
+pub mod Runs
 pub mod Trial
 pub mod Stops
 pub mod Reach

@@ -108,32 +108,36 @@ legal-take-apart g s (v ∷ a) b (actor, enabled, legal) =
     let (first, second) = legal-take-apart g (fire g s v) a b legal in
     ((actor, enabled, first), second)
 
--- A legal order that makes k iterations leaves each channel's tokens as they were.
-pub iterations-restore : {g : Graph} {q : ℕ → ℕ} → Sound g → Balanced g q → (s : State) (order : List ℕ) (k : ℕ)
-    → Legal g s order → Fires g (λ v. k * q v) order → (c : ℕ) → c < g .channels → after g s order c ≡ s c
-iterations-restore {g} {q} sound balanced s order k legal fires c l =
+-- Counts that put on each channel what they take off it; they may be 0.
+abbrev pub Evens : Graph → (ℕ → ℕ) → Type 0
+Evens g q = (c : ℕ) → c < g .channels → q (g .channel c .tail) * g .channel c .produce ≡ q (g .channel c .head) * g .channel c .consume
+
+-- A legal order that fires d times such counts leaves each channel's tokens as they were.
+pub evens-restore : {g : Graph} → Sound g → (q : ℕ → ℕ) → Evens g q → (s : State) (order : List ℕ) (d : ℕ)
+    → Legal g s order → Fires g (λ v. d * q v) order → (c : ℕ) → c < g .channels → after g s order c ≡ s c
+evens-restore {g} sound q even s order d legal fires c l =
     let e = g .channel c in
     omega (
       arith,
       rw (fires (e .tail) (sound .tail c l), fires (e .head) (sound .head c l)) at (tokens-law g s order legal c l),
-      ap (λ (n : ℕ). k * n) (balanced .equal c l),
+      ap (λ (n : ℕ). d * n) (even c l),
     )
 
 -- A legal order that makes one iteration leaves each channel's tokens as they were.
 pub iteration-restores : {g : Graph} {q : ℕ → ℕ} → Sound g → Balanced g q → (s : State) (order : List ℕ)
     → Legal g s order → Fires g q order → (c : ℕ) → c < g .channels → after g s order c ≡ s c
-iteration-restores sound balanced s order legal fires =
-    iterations-restore sound balanced s order 1 legal (λ v l. omega (arith, fires v l))
+iteration-restores {q = q} sound balanced s order legal fires =
+    evens-restore sound q (balanced .equal) s order 1 legal (λ v l. omega (arith, fires v l))
 
--- A graph free of deadlock makes any number of iterations, one after the other.
-pub iterations : {g : Graph} {q : ℕ → ℕ} → Sound g → Balanced g q → Lives g q → (K : ℕ)
-    → (order : List ℕ) × Legal g (initial g) order × Fires g (λ v. K * q v) order
+-- Where some legal order fires each actor Q times, and Q puts on each channel what it takes off it, some legal order fires each
+-- actor d times as often.
+pub lives-times : {g : Graph} → Sound g → (Q : ℕ → ℕ) → Evens g Q → Lives g Q → (d : ℕ) → Lives g (λ v. d * Q v)
 unfolding Legal firings
-iterations sound balanced lives zero = ([], tt, λ v l. omega arith)
-iterations {g} sound balanced lives (suc K) =
+lives-times sound Q even lives zero = ([], tt, λ v l. omega arith)
+lives-times {g} sound Q even lives (suc d) =
     let (once, legal-once, fires-once) = lives in
-    let (order, legal, fires) = iterations sound balanced lives K in
-    let same = iterations-restore sound balanced (initial g) order K legal fires in
+    let (order, legal, fires) = lives-times sound Q even lives d in
+    let same = evens-restore sound Q even (initial g) order d legal fires in
     let again = legal-ext g (initial g) (after g (initial g) order) once (λ c l. sym (same c l)) legal-once in (
       order ++ once,
       legal-append g (initial g) order once legal again,

@@ -9,11 +9,10 @@ use native.Mathlib.Omega.{arith}
 use Rattle.sdf.specs.Graph.{Graph, Sound}
 use Rattle.sdf.specs.Order.{State, initial, Enabled, fire, after, Legal, firings, Fires, Lives}
 use Rattle.sdf.specs.Balance.{AtMost}
-use Rattle.sdf.specs.Sum.{sumTo}
 use Rattle.sdf.proofs.Numbers.{lt-or-ge, eq-or-ne, chosen, passed}
-use Rattle.sdf.proofs.Sum.{sum-mono}
-use Rattle.sdf.proofs.Settle.{settle, first-fails, put, put-keeps, sum-raise}
-use Rattle.sdf.proofs.Order.{one-more, tokens-law, legal-ext, firings-append, legal-append, legal-take-apart}
+use Rattle.sdf.proofs.Settle.{settle, first-fails}
+use Rattle.sdf.proofs.Order.{Evens, tokens-law, firings-append, legal-take-apart}
+use Rattle.sdf.proofs.Runs.{Run, missing, go-on}
 
 -- With n firings done, some channel into v holds too little for one more firing of v.
 abbrev pub Waits : Graph → (ℕ → ℕ) → ℕ → Type 0
@@ -25,34 +24,7 @@ pub record Stopped (g : Graph) (q n : ℕ → ℕ) : Type 0 where
   pub within : AtMost g n q
   pub waits : (v : ℕ) → v < g .actors → n v < q v → Waits g n v
 
--- An order on its way: legal, and no actor fires more often than q.
-record Run (g : Graph) (q : ℕ → ℕ) : Type 0 where
-  order : List ℕ
-  legal : Legal g (initial g) order
-  within : AtMost g (λ v. firings v order) q
-
--- How many firings are missing.
-abbrev missing : (g : Graph) (q : ℕ → ℕ) → Run g q → ℕ
-missing g q r = sumTo q (g .actors) - sumTo (λ v. firings v (r .order)) (g .actors)
-
 module _ (g : Graph) (q : ℕ → ℕ) where
-  go-on : (r : Run g q) (v : ℕ) → v < g .actors → firings v (r .order) < q v → Enabled g (after g (initial g) (r .order)) v → (t : Run g q) × (missing g q t < missing g q r)
-  unfolding Legal firings
-  go-on r v l short enabled =
-      let x : ℕ → ℕ = λ w. firings w (r .order) in
-      let y : ℕ → ℕ = λ w. firings w (r .order ++ (v ∷ [])) in
-      let more : AtMost g x y = λ w m. omega (arith, firings-append w (r .order) (v ∷ [])) in
-      let within : AtMost g y q = λ w m. omega (arith, firings-append w (r .order) (v ∷ []), one-more x q v w short (r .within w m)) in
-      let up : x v < y v = omega (arith, firings-append v (r .order) (v ∷ []), chosen {a = v} 1 0 refl) in (
-        record { order = r .order ++ (v ∷ []); legal = legal-append g (initial g) (r .order) (v ∷ []) (r .legal) (l, enabled, tt); within = within },
-        omega (
-          arith,
-          sum-raise x v (y v) (g .actors) l up,
-          sum-mono (put x v (y v)) y (g .actors) (λ w m. put-keeps (λ w n. n ≤ y w) x v (y v) (le-refl (y v)) w (more w m)),
-          sum-mono y q (g .actors) within,
-        ),
-      )
-
   -- After a legal order an actor may fire, or a channel into it holds too little.
   enabled-or-waits : (order : List ℕ) → Legal g (initial g) order → (v : ℕ) → Enabled g (after g (initial g) order) v ⊎ Waits g (λ w. firings w order) v
   enabled-or-waits order legal v =
@@ -77,7 +49,7 @@ module _ (g : Graph) (q : ℕ → ℕ) where
       ] in
       elim (first-fails goes-on (g .actors)) [
         | inl all ↦ inl (record { within = r .within; waits = all })
-        | inr (v, l, (short, enabled)) ↦ inr (go-on r v l short enabled)
+        | inr (v, l, (short, enabled)) ↦ inr (go-on g q r v l short enabled)
       ]
 
   -- Some legal order stops on its way to q.
@@ -92,10 +64,6 @@ pub stopped-lives : {g : Graph} → Sound g → (q : ℕ → ℕ) → ((n : ℕ 
 stopped-lives {g} sound q all =
     let (order, legal, stopped) = stops g q in
     (order, legal, all (λ v. firings v order) stopped)
-
--- Counts that put on each channel what they take off it; they may be 0.
-abbrev pub Evens : Graph → (ℕ → ℕ) → Type 0
-Evens g q = (c : ℕ) → c < g .channels → q (g .channel c .tail) * g .channel c .produce ≡ q (g .channel c .head) * g .channel c .consume
 
 module _ {g : Graph} (sound : Sound g) (q n : ℕ → ℕ) (even : Evens g q) (stopped : Stopped g q n) (order : List ℕ) (legal : Legal g (initial g) order) where
   -- Every actor short of q at the stop has fired no more often than it had there.
@@ -136,32 +104,6 @@ lives-stopped sound q Q n (order, legal, fires) most even stopped v l =
     (λ short. absurd (omega (arith, stays-behind sound Q n even stopped order legal [] order refl (λ w m _. omega arith) v l short, fires v l, most v l)))
     (λ full. le-antisymm (stopped .within v l) full)
     (lt-or-ge (n v) (Q v))
-
--- A legal order that fires d times such counts leaves each channel's tokens as they were.
-pub evens-restore : {g : Graph} → Sound g → (q : ℕ → ℕ) → Evens g q → (s : State) (order : List ℕ) (d : ℕ)
-    → Legal g s order → Fires g (λ v. d * q v) order → (c : ℕ) → c < g .channels → after g s order c ≡ s c
-evens-restore {g} sound q even s order d legal fires c l =
-    let e = g .channel c in
-    omega (
-      arith,
-      rw (fires (e .tail) (sound .tail c l), fires (e .head) (sound .head c l)) at (tokens-law g s order legal c l),
-      ap (λ (n : ℕ). d * n) (even c l),
-    )
-
--- Where some legal order fires each actor Q times, and Q puts on each channel what it takes off it, some legal order fires each
--- actor d times as often.
-pub lives-times : {g : Graph} → Sound g → (Q : ℕ → ℕ) → Evens g Q → Lives g Q → (d : ℕ) → Lives g (λ v. d * Q v)
-unfolding Legal firings
-lives-times sound Q even lives zero = ([], tt, λ v l. omega arith)
-lives-times {g} sound Q even lives (suc d) =
-    let (once, legal-once, fires-once) = lives in
-    let (order, legal, fires) = lives-times sound Q even lives d in
-    let same = evens-restore sound Q even (initial g) order d legal fires in
-    let again = legal-ext g (initial g) (after g (initial g) order) once (λ c l. sym (same c l)) legal-once in (
-      order ++ once,
-      legal-append g (initial g) order once legal again,
-      λ v l. omega (arith, firings-append v order once, fires v l, fires-once v l),
-    )
 
 module _ (g k : Graph) (actors : k .actors ≡ g .actors) (pick : ℕ → ℕ)
     (picked : (c : ℕ) → c < k .channels → (pick c < g .channels) × (k .channel c ≡ g .channel (pick c))) where

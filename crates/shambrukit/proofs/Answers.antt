@@ -13,18 +13,27 @@ use Rattle.edf.specs.Demand.{demand, load, LateLength, Within}
 use Rattle.edf.specs.Tasks.{tasks, task-numbers}
 use Rattle.edf.proofs.Fits.{fits-fewest}
 use Rattle.trial.specs.Flat.{vector}
+use Rattle.sheet.specs.declared.Refusal.{Refusal}
 use Rattle.sheet.specs.declared.Refusal.the-variants.{Question, Room, Number}
 use Rattle.sheet.specs.declared.Written.the-variants.{Wrote, Refused}
 use Rattle.sheet.proofs.Walk.{part-is-drop}
 use Rattle.shambrukit.specs.declared.Verdict.the-variants.{Accepted, Overload, Late}
 use Rattle.shambrukit.specs.declared.Load.{Load}
 use Rattle.shambrukit.specs.declared.Told.the-variants as told
-use Rattle.shambrukit.specs.Graphs.{Judged, nothing, works-of}
+use Rattle.shambrukit.specs.declared.Asked.{Asked}
+use Rattle.shambrukit.specs.declared.Asked.the-variants.{Demand, Fewest}
+use Rattle.ready.specs.Graphs.{Judged, nothing, works-of}
+use Rattle.ready.specs.Lines.{refused}
 use Rattle.shambrukit.specs.Verdict.{Judgement, overload, late, accepted}
-use Rattle.shambrukit.specs.Calls.{demand-told, fewest-told, task-list}
+use Rattle.shambrukit.specs.Calls.{demand-told, fewest-told, asked-told, task-list}
 use Rattle.shambrukit.specs.Held.{Stand, Held, HeldTold, HeldListed, Column}
-use Rattle.shambrukit.proofs.Same.{demand-same, load-same, late-same, within-same, tasks-same}
+use Rattle.ready.proofs.Same.{demand-same, load-same, late-same, within-same, tasks-same}
 use Rattle.shambrukit.proofs.Held.{behind-place, column-at, lent-works, lent-work, lent-same}
+
+-- 1 to 12 come first, whatever is asked.
+pub asked-refused : (r : Refusal) (which : Asked) → told.Refused r ≡ asked-told (refused r) which
+asked-refused r (Demand t) = refl
+asked-refused r (Fewest graph actor K) = refl
 
 module _ {n : ℕ} {heads rows : List ℕ} (t : ℕ) where
   -- 13: a length above its bound.

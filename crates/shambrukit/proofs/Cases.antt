@@ -6,7 +6,7 @@ use Prim.Native.Nat.{ℕ}
 use Rattle.edf.specs.Tasks.{tasks, tasks-to, actor-tasks, task-numbers}
 use Rattle.sheet.specs.Fields.{to-bytes}
 use Rattle.shambrukit.specs.declared.Verdict.{Verdict}
-use Rattle.shambrukit.specs.Lines.{Outcome}
+use Rattle.ready.specs.Lines.{Outcome}
 use Rattle.shambrukit.specs.Verdict.{rowOf, SheetVerdict}
 use Rattle.shambrukit.specs.Calls.{SheetTold, toldOf, demand-told, fewest-told, numbers-of, skip-numbers, task-list}
 use Rattle.shambrukit.proofs.Exists.{sheet-exists, verdict-exists}

@@ -35,11 +35,11 @@ use Rattle.sheet.proofs.Walk.{Passed, walk-on}
 use Rattle.sheet.proofs.Forms.{graphs-on}
 use Rattle.shambrukit.specs.declared.Verdict.{Verdict}
 use Rattle.shambrukit.specs.declared.Verdict.the-variants.{Accepted, Overload, Late, Refused}
-use Rattle.shambrukit.specs.Graphs.{Judged, drawn, judged, RepetitionNumbers, SkipNumbers, works-of}
-use Rattle.shambrukit.specs.Lines.{Outcome, refused, ready, Unless, fail, meet, With, given, Checked, graph-lines, frame-line, second-walk, list-lines, sheet-lines}
+use Rattle.ready.specs.Graphs.{Judged, drawn, judged, RepetitionNumbers, SkipNumbers, works-of}
+use Rattle.ready.specs.Lines.{Outcome, refused, ready, Unless, fail, meet, With, given, Checked, graph-lines, frame-line, second-walk, list-lines, sheet-lines}
 use Rattle.shambrukit.specs.Verdict.{load-of, Judgement, overload, late, accepted, VerdictOf, SheetVerdict, ListVerdict}
-use Rattle.shambrukit.proofs.Sound.{drawn-sound}
-use Rattle.shambrukit.proofs.Agree.{repetition-agrees, skips-agree}
+use Rattle.ready.proofs.Sound.{drawn-sound}
+use Rattle.ready.proofs.Agree.{repetition-agrees, skips-agree}
 use Rattle.shambrukit.proofs.Minimum.{list-gives, sheet-gives}
 
 -- The first n entries of a vector, as a list.

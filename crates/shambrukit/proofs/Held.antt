@@ -9,9 +9,9 @@ use Rattle.edf.specs.Demand.{Works}
 use Rattle.edf.specs.Frame.{Frame}
 use Rattle.demand.specs.Lent as lent
 use Rattle.sheet.proofs.Walk.{part-is-drop}
-use Rattle.shambrukit.specs.Graphs.{Judged, nothing, work-of, works-of}
+use Rattle.ready.specs.Graphs.{Judged, nothing, work-of, works-of}
 use Rattle.shambrukit.specs.Held.{Stand, Framed}
-use Rattle.shambrukit.proofs.Same.{SameWork, Same, bounded-same, frame-same}
+use Rattle.ready.proofs.Same.{SameWork, Same, bounded-same, frame-same}
 
 -- The numbers behind place k of the rows, as they are lent.
 abbrev pub behind-place : ℕ → List ℕ → List ℕ

@@ -9,8 +9,8 @@ use Rattle.sheet.specs.Fields.{Bytes}
 use Rattle.sheet.specs.Check.{check-sheet}
 use Rattle.sheet.specs.Forms.{packed, unpacked}
 use Rattle.sheet.proofs.Forms.{pack-unpacked, unpack-packed}
-use Rattle.shambrukit.specs.Graphs.{Judged}
-use Rattle.shambrukit.specs.Lines.{Outcome, ready, Checked, list-lines, sheet-lines}
+use Rattle.ready.specs.Graphs.{Judged}
+use Rattle.ready.specs.Lines.{Outcome, ready, Checked, list-lines, sheet-lines}
 use Rattle.shambrukit.proofs.Minimum.{checked-on}
 use Rattle.shambrukit.proofs.Prepares.{numbers-on}
 

@@ -1,14 +1,8 @@
-pub mod Sound
 pub mod Unique
 pub mod Minimum
-pub mod Agree
 pub mod Exists
 pub mod Cases
-pub mod Same
 pub mod Copied
-pub mod Places
-pub mod Says
-pub mod Readying
 pub mod Held
 pub mod Answers
 pub mod Prepares

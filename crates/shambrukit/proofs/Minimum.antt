@@ -33,8 +33,8 @@ use Rattle.sheet.specs.Check.{stretch, first-walk, check-sheet, check-list}
 use Rattle.sheet.specs.Forms.{layout-of, unpacked}
 use Rattle.sheet.proofs.Walk.{Passed, walk-on}
 use Rattle.sheet.proofs.Forms.{graphs-on}
-use Rattle.shambrukit.specs.Graphs.{Judged, drawn, behind, graph-at, judged, nothing, RepetitionNumbers, SkipNumbers, work-of, works-of}
-use Rattle.shambrukit.specs.Lines.{Outcome, refused, ready, Unless, fail, meet, With, given, Checked, graph-lines, frame-line, second-walk, list-lines, sheet-lines}
+use Rattle.ready.specs.Graphs.{Judged, drawn, behind, graph-at, judged, nothing, RepetitionNumbers, SkipNumbers, work-of, works-of}
+use Rattle.ready.specs.Lines.{Outcome, refused, ready, Unless, fail, meet, With, given, Checked, graph-lines, frame-line, second-walk, list-lines, sheet-lines}
 use Rattle.shambrukit.specs.declared.Load.{Load}
 use Rattle.shambrukit.specs.declared.Verdict.{Verdict}
 use Rattle.shambrukit.specs.declared.Verdict.the-variants.{Accepted, Overload, Late, Refused}
@@ -42,7 +42,7 @@ use Rattle.shambrukit.specs.declared.Told.{Told}
 use Rattle.shambrukit.specs.declared.Told.the-variants.{Value}
 use Rattle.shambrukit.specs.Verdict.{load-of, overload, late, accepted, VerdictOf, SheetVerdict, ListVerdict}
 use Rattle.shambrukit.specs.Calls.{SheetTold, ListTold, unless-told, fewest-told}
-use Rattle.shambrukit.proofs.Sound.{times-length, drawn-sound, bounded-judged}
+use Rattle.ready.proofs.Sound.{times-length, drawn-sound, bounded-judged}
 
 -- The graph at the start of l passes answers 4 to 11, and j is what judging it finds.
 pub record Passes (l : List ℕ) (j : Judged) : Type 0 where

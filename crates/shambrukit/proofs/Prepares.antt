@@ -13,14 +13,14 @@ use Rattle.sheet.specs.declared.Answer.the-variants.{On}
 use Rattle.sheet.specs.declared.Written.the-variants.{Wrote, Refused}
 use Rattle.sheet.specs.Layout.{in-numbers}
 use Rattle.sheet.specs.Fields.{in-range}
-use Rattle.sheet.specs.Check.{stretch, check-list}
-use Rattle.sheet.specs.Forms.{layout-of, packed, range-walk, check-numbers, pack-answer}
-use Rattle.shambrukit.specs.declared.Prepared.{Prepared}
-use Rattle.shambrukit.specs.declared.Prepared.the-variants as prepared
-use Rattle.shambrukit.specs.Graphs.{Judged, behind}
-use Rattle.shambrukit.specs.Lines.{refused, ready, list-lines}
+use Rattle.sheet.specs.Check.{stretch, check-list, check-sheet}
+use Rattle.sheet.specs.Forms.{layout-of, packed, unpacked, range-walk, check-numbers, pack-answer, unpack-answer}
+use Rattle.ready.specs.declared.Prepared.{Prepared}
+use Rattle.ready.specs.declared.Prepared.the-variants as prepared
+use Rattle.ready.specs.Graphs.{Judged, behind}
+use Rattle.ready.specs.Lines.{refused, ready, list-lines}
 use Rattle.shambrukit.specs.Calls.{unless-written, whole}
-use Rattle.shambrukit.specs.Rows.{Prepares}
+use Rattle.ready.specs.Rows.{Prepares}
 use Rattle.shambrukit.specs.Held.{Stand, Framed}
 use Rattle.shambrukit.proofs.Minimum.{Ready, list-gives, checked-on}
 
@@ -41,7 +41,11 @@ module _ (l heads rows : List ℕ) {p : Prepared} (prepares : Prepares l p heads
   pub refused-lines : {r : Refusal} → p ≡ prepared.Refused r → list-lines l (refused r)
   refused-lines e = rw e at prepares
 
-  -- Where nothing is refused, the graphs are ready.
+  -- Where nothing is refused, there are judged graphs.
+  pub ready-lines : {f : Ticks} → p ≡ prepared.Ready f → (js : List Judged) × list-lines l (ready js (f .n))
+  ready-lines e = let (js, lines, count, stands) = rw e at prepares in (js, lines)
+
+  -- They stand in their places.
   pub ready-held : {f : Ticks} → p ≡ prepared.Ready f → 24 ≤ length heads → 832 ≤ length rows → ReadyHeld l heads rows (f .n)
   ready-held {f} e h k =
       let (js, lines, count, stands) = rw e at prepares in
@@ -79,3 +83,10 @@ pub pack-whole :
     pack-answer l room ≡ whole (ready js F) (length (packed l)) room
 unfolding pack-answer
 pack-whole l room js F lines = rw (numbers-on l js F lines) (room-line (leb (length (packed l)) room) (length (packed l)))
+
+-- What answers 1 to 5 do not refuse, unpacking refuses only for room.
+pub unpack-whole :
+    (s : List ℕ) (room : ℕ) (js : List Judged) (F : ℕ) → check-sheet s ≡ On →
+    unpack-answer s room ≡ whole (ready js F) (length (unpacked s)) room
+unfolding unpack-answer
+unpack-whole s room js F on = rw on (room-line (leb (length (unpacked s)) room) (length (unpacked s)))

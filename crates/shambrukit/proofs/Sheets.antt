@@ -18,9 +18,9 @@ use Rattle.sheet.specs.declared.Refusal.{Refusal}
 use Rattle.sheet.specs.declared.Written.{Written}
 use Rattle.sheet.specs.declared.Written.the-variants.{Wrote, Refused}
 use Rattle.shambrukit.specs.declared.Verdict.{Verdict}
-use Rattle.shambrukit.specs.Lines.{Outcome, refused, sheet-lines, list-lines}
+use Rattle.ready.specs.Lines.{Outcome, refused, sheet-lines, list-lines}
 use Rattle.shambrukit.specs.Verdict.{SheetVerdict, ListVerdict}
-use Rattle.shambrukit.specs.Calls.{SheetTold, ListTold, SheetFills, ListFills, whole}
+use Rattle.shambrukit.specs.Calls.{SheetTold, ListTold, SheetFills, ListFills}
 
 -- With room for every result, a refusal is that of the answers before 14.
 refusal : (a : Answer) (n : ℕ) {r : Refusal} → (a ≡ On → n ≤ largest-list) → Refused r ≡ written a largest-list n → a ≡ No r
@@ -70,7 +70,7 @@ unpack-writes s before {after} {w} {n} full e m q =
     }
 
 -- Answers 3 to 12 of the unpacked form are those of the sheet.
-sheet-as-list :
+pub sheet-as-list :
     {s : List ℕ} {n : ℕ} {numbers : List ℕ} (o : Outcome) → Unpacks s n numbers → list-lines (take n numbers) o → sheet-lines s o
 unfolding sheet-lines
 sheet-as-list {s} {n} {numbers} o u h = rw (u .on) (subst (λ l. list-lines l o) (u .form) h)
@@ -93,11 +93,3 @@ pub fills-as-list :
     (result : Outcome → List ℕ) {w : Written} (before : List ℕ) {after : List ℕ} →
     Unpacks s n numbers → ListFills (take n numbers) call result w before after → SheetFills s call result w before after
 fills-as-list result before u (o, h, e, m) = (o, sheet-as-list o u h, e, m)
-
--- Where lent memory is to hold the unpacked form itself, the form that stands in the places is that of the sheet.
-pub form-as-list :
-    {s : List ℕ} {n : ℕ} {numbers : List ℕ} {w : Written} (before : List ℕ) {after : List ℕ} → Unpacks s n numbers →
-    (let l = take n numbers in ListFills l (λ o. whole o (length l) (length before)) (λ _. l) w before after) →
-    SheetFills s (λ o. whole o (length (unpacked s)) (length before)) (λ _. unpacked s) w before after
-form-as-list {s} {n} {numbers} {w} before {after} u h =
-    subst (λ l. SheetFills s (λ o. whole o (length l) (length before)) (λ _. l) w before after) (u .form) (fills-as-list _ before u h)

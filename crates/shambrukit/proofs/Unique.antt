@@ -22,8 +22,8 @@ use Rattle.sheet.specs.Check.{stretch, check-sheet, check-list}
 use Rattle.sheet.specs.Forms.{unpacked}
 use Rattle.shambrukit.specs.declared.Told.{Told}
 use Rattle.shambrukit.specs.declared.Verdict.{Verdict}
-use Rattle.shambrukit.specs.Graphs.{Judged, drawn, judged, RepetitionNumbers, SkipNumbers, works-of}
-use Rattle.shambrukit.specs.Lines.{Outcome, refused, ready, Unless, fail, meet, With, given, Checked, graph-lines, frame-line, second-walk, list-lines, sheet-lines}
+use Rattle.ready.specs.Graphs.{Judged, drawn, judged, RepetitionNumbers, SkipNumbers, works-of}
+use Rattle.ready.specs.Lines.{Outcome, refused, ready, Unless, fail, meet, With, given, Checked, graph-lines, frame-line, second-walk, list-lines, sheet-lines}
 use Rattle.shambrukit.specs.Verdict.{Judgement, overload, late, accepted, VerdictOf, SheetVerdict, ListVerdict, rowOf}
 use Rattle.shambrukit.specs.Calls.{SheetTold, ListTold, SheetFills, ListFills, toldOf, writtenOf}
 use Rattle.shambrukit.specs.C.{SheetRow, ListRow, SheetSays, ListSays, SheetLends, ListLends}

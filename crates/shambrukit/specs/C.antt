@@ -7,7 +7,7 @@ use Rattle.shambrukit.specs.declared.Told.{Told}
 use Rattle.shambrukit.specs.declared.Verdict.{Verdict}
 use Rattle.shambrukit.specs.declared.c.VerdictNumbers.{VerdictNumbers}
 use Rattle.shambrukit.specs.declared.c.ResultNumbers.{ResultNumbers}
-use Rattle.shambrukit.specs.Lines.{Outcome}
+use Rattle.ready.specs.Lines.{Outcome}
 use Rattle.shambrukit.specs.Verdict.{SheetVerdict, ListVerdict, rowOf}
 use Rattle.shambrukit.specs.Calls.{SheetTold, ListTold, SheetFills, ListFills, toldOf, writtenOf}
 

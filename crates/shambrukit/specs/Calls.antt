@@ -18,10 +18,12 @@ use Rattle.sheet.specs.declared.Written.{Written}
 use Rattle.sheet.specs.declared.Written.the-variants as written
 use Rattle.shambrukit.specs.declared.Told.{Told}
 use Rattle.shambrukit.specs.declared.Told.the-variants.{Value, Refused}
+use Rattle.shambrukit.specs.declared.Asked.{Asked}
+use Rattle.shambrukit.specs.declared.Asked.the-variants.{Demand, Fewest}
 use Rattle.shambrukit.specs.declared.Listing.{Listing}
 use Rattle.shambrukit.specs.declared.Listing.the-variants.{Repetition, Skips, Tasks}
-use Rattle.shambrukit.specs.Graphs.{Judged, nothing, work-of, works-of}
-use Rattle.shambrukit.specs.Lines.{Outcome, refused, ready, sheet-lines, list-lines}
+use Rattle.ready.specs.Graphs.{Judged, nothing, work-of, works-of}
+use Rattle.ready.specs.Lines.{Outcome, refused, ready, sheet-lines, list-lines}
 
 -- What a call that goes by the outcome may say of a byte string, and of an unpacked form.
 abbrev pub SheetTold : {A : Type 0} → List ℕ → (Outcome → A) → A → Type 0
@@ -69,6 +71,11 @@ fewest-told (ready js frame) graph actor K =
     (unless-told (ltb actor (length (j .times))) Number
     (unless-told (leb K max-outputs) Question
     (Value (fewest (vector (j .repetition)) (vector (j .skips)) K actor))))
+
+-- What is asked of a sheet.
+abbrev pub asked-told : Outcome → Asked → Told
+asked-told o (Demand t) = demand-told o t
+asked-told o (Fewest graph actor K) = fewest-told o graph actor K
 
 -- A list of numbers of one graph, into `room` places: the answer, and the numbers.
 abbrev pub listed : (Judged → List ℕ) → Outcome → ℕ → ℕ → Written

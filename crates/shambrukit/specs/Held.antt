@@ -8,11 +8,11 @@ use Rattle.edf.specs.Frame.{Frame}
 use Rattle.sheet.specs.Answer.{filled}
 use Rattle.sheet.specs.declared.Written.{Written}
 use Rattle.shambrukit.specs.declared.Verdict.{Verdict}
-use Rattle.shambrukit.specs.Graphs.{Judged, nothing, works-of}
-use Rattle.shambrukit.specs.Lines.{Outcome, ready}
+use Rattle.ready.specs.Graphs.{Judged, nothing, works-of}
+use Rattle.ready.specs.Lines.{Outcome, ready}
 use Rattle.shambrukit.specs.Verdict.{Judgement}
 use Rattle.shambrukit.specs.Calls.{listed, numbers-of}
-use Rattle.shambrukit.specs.Rows.{Row, Rows}
+use Rattle.ready.specs.Rows.{Row, Rows}
 
 -- The judged graphs js, n of them, stand in memory of the library's sizes.
 pub record Stand (js : List Judged) (n : ℕ) (heads rows : List ℕ) : Type 0 where

@@ -7,8 +7,8 @@ use Rattle.sheet.specs.Answer.{numberOf, placeOf}
 use Rattle.shambrukit.specs.declared.Verdict.{Verdict}
 use Rattle.shambrukit.specs.declared.Verdict.the-variants.{Accepted, Overload, Late, Refused}
 use Rattle.shambrukit.specs.declared.Load.{Load}
-use Rattle.shambrukit.specs.Graphs.{works-of}
-use Rattle.shambrukit.specs.Lines.{Outcome, refused, ready, sheet-lines, list-lines}
+use Rattle.ready.specs.Graphs.{works-of}
+use Rattle.ready.specs.Lines.{Outcome, refused, ready, sheet-lines, list-lines}
 
 abbrev pub load-of : Works → ℕ → Load
 load-of ws frame = record { load = record { n = load ws frame }; frame = record { n = frame } }

@@ -1,23 +1,20 @@
 // The calls on a byte string: its unpacked form is asked.
-ghost use mathlib.Core.Path.{_≡_};
-ghost use mathlib.Core.List.{_++_};
-ghost use Prim.Native.Nat.{_≤_};
-ghost use lib.ListN.{length, drop};
+ghost use lib.ListN.{length};
 ghost use Rattle.sheet.specs.Forms.{unpacked};
 ghost use Rattle.shambrukit.specs.Verdict.{SheetVerdict};
-ghost use Rattle.shambrukit.specs.Calls.{SheetTold, SheetFills, ListFills, demand-told, fewest-told, listed, numbers-of, listing-numbers, repetition-numbers, skip-numbers, task-list, whole};
+ghost use Rattle.shambrukit.specs.Calls.{SheetTold, SheetFills, demand-told, fewest-told, asked-told, listed, numbers-of, listing-numbers, repetition-numbers, skip-numbers, task-list, whole};
+use super::Asked;
 use super::Listing;
-use super::Prepared;
 use super::Told;
 use super::Verdict;
 use super::list;
-use super::prepare;
-use super::prepare::HEADS;
-use super::prepare::ROWS;
-use sheet::Refusal;
+use forms::unpack;
+use ready::Prepared;
+use ready::prepare;
+use ready::prepare::HEADS;
+use ready::prepare::ROWS;
 use sheet::Written;
 use sheet::layout::LIST;
-use sheet::unpack;
 
 pub fn judge(s: &[u8]) -> Verdict
     ensures { λ r. ⌜ SheetVerdict (now (s .entry)) r ⌝ }
@@ -30,28 +27,30 @@ pub fn judge(s: &[u8]) -> Verdict
     }
 }
 
-// 01, Demand at a length.
-pub fn demand(s: &[u8], length: u64) -> Told
-    ensures { λ r. ⌜ SheetTold (now (s .entry)) (λ o. demand-told o length) r ⌝ }
+// What is asked of the sheet.
+fn ask(s: &[u8], which: Asked) -> Told
+    ensures { λ r. ⌜ SheetTold (now (s .entry)) (λ o. asked-told o which) r ⌝ }
 {
     let mut numbers = [0u32; LIST];
     let unpacked = unpack::sheet(s, &mut numbers);
     match unpacked {
         Written::Refused(r) => Told::Refused(r),
-        Written::Wrote(n) => list::demand(&numbers[..n], length),
+        Written::Wrote(n) => list::ask(&numbers[..n], which),
     }
+}
+
+// 01, Demand at a length.
+pub fn demand(s: &[u8], length: u64) -> Told
+    ensures { λ r. ⌜ SheetTold (now (s .entry)) (λ o. demand-told o length) r ⌝ }
+{
+    ask(s, Asked::Demand(length))
 }
 
 // 01, Fewest firings of an actor of a graph for k outputs.
 pub fn fewest(s: &[u8], graph: u64, actor: u64, k: u64) -> Told
     ensures { λ r. ⌜ SheetTold (now (s .entry)) (λ o. fewest-told o graph actor k) r ⌝ }
 {
-    let mut numbers = [0u32; LIST];
-    let unpacked = unpack::sheet(s, &mut numbers);
-    match unpacked {
-        Written::Refused(r) => Told::Refused(r),
-        Written::Wrote(n) => list::fewest(&numbers[..n], graph, actor, k),
-    }
+    ask(s, Asked::Fewest(graph, actor, k))
 }
 
 // The numbers of a graph that are asked for.
@@ -87,36 +86,6 @@ pub fn tasks(s: &[u8], graph: u64, out: &mut [u64]) -> Written
     listing(s, Listing::Tasks, graph, out)
 }
 
-fn copy(from: &[u32], to: &mut [u32])
-    requires { ⌜ length (now from) ≤ length (now to) ⌝ }
-    ensures { λ _. ⌜ now (to .exit) ≡ now (from .entry) ++ drop (length (now (from .entry))) (now (to .entry)) ⌝ }
-{
-    let mut i = 0;
-    while i < from.len() {
-        to[i] = from[i];
-        i += 1;
-    }
-}
-
-// The unpacked form itself, if no answer of 3 to 12 refuses it.
-fn hand_out(l: &[u32], out: &mut [u32]) -> Written
-    ensures { λ r. ⌜ ListFills (now (l .entry)) (λ o. whole o (length (now (l .entry))) (length (now (out .entry)))) (λ _. now (l .entry)) r (now (out .entry)) (now (out .exit)) ⌝ }
-{
-    let mut heads = [0u64; HEADS];
-    let mut rows = [0u64; ROWS];
-    let prepared = prepare::list(l, &mut heads, &mut rows);
-    match prepared {
-        Prepared::Refused(r) => Written::Refused(r),
-        Prepared::Ready(_) => {
-            if out.len() < l.len() {
-                return Written::Refused(Refusal::Room);
-            }
-            copy(l, out);
-            Written::Wrote(l.len())
-        }
-    }
-}
-
 // The unpacked form of a sheet that no answer of 1 to 12 refuses.
 pub fn unpack_sheet(s: &[u8], out: &mut [u32]) -> Written
     ensures { λ r. ⌜ SheetFills (now (s .entry)) (λ o. whole o (length (unpacked (now (s .entry)))) (length (now (out .entry)))) (λ _. unpacked (now (s .entry))) r (now (out .entry)) (now (out .exit)) ⌝ }
@@ -125,6 +94,14 @@ pub fn unpack_sheet(s: &[u8], out: &mut [u32]) -> Written
     let unpacked = unpack::sheet(s, &mut numbers);
     match unpacked {
         Written::Refused(r) => Written::Refused(r),
-        Written::Wrote(n) => hand_out(&numbers[..n], out),
+        Written::Wrote(n) => {
+            let mut heads = [0u64; HEADS];
+            let mut rows = [0u64; ROWS];
+            let prepared = prepare::list(&numbers[..n], &mut heads, &mut rows);
+            match prepared {
+                Prepared::Refused(r) => Written::Refused(r),
+                Prepared::Ready(_) => unpack::sheet(s, out),
+            }
+        }
     }
 }

@@ -2,7 +2,6 @@
 use sheet::Refusal;
 use units::Ticks;
 
-pub mod prepare; // answers 3 to 12 and the numbers of every graph
 pub mod list; // the calls on an unpacked form
 pub mod bytes; // the calls on a byte string
 pub mod c; // the calls for C
@@ -21,15 +20,15 @@ pub enum Verdict {
     Refused(Refusal),
 }
 
+// What is asked of a sheet.
+pub enum Asked {
+    Demand(u64), // length
+    Fewest(u64, u64, u64), // graph, actor, outputs
+}
+
 // What a question is answered with.
 pub enum Told {
     Value(u64),
-    Refused(Refusal),
-}
-
-// The lines 1 to 12: a refusal, or every graph ready and the frame.
-pub enum Prepared {
-    Ready(Ticks),
     Refused(Refusal),
 }
 

@@ -5,24 +5,26 @@ ghost use Prim.Native.Nat.{ℕ, _≤_};
 ghost use lib.ListN.{length, take, drop};
 ghost use Rattle.sheet.specs.Forms.{packed};
 ghost use Rattle.shambrukit.specs.Verdict.{ListVerdict};
-ghost use Rattle.shambrukit.specs.Calls.{ListTold, ListFills, demand-told, fewest-told, listed, numbers-of, listing-numbers, repetition-numbers, skip-numbers, task-list, whole};
-ghost use Rattle.shambrukit.specs.Graphs.{Judged};
+ghost use Rattle.shambrukit.specs.Calls.{ListTold, ListFills, demand-told, fewest-told, asked-told, listed, numbers-of, listing-numbers, repetition-numbers, skip-numbers, task-list, whole};
+ghost use Rattle.ready.specs.Graphs.{Judged};
 ghost use Rattle.shambrukit.specs.Held.{Held, HeldFramed, HeldVerdict, HeldTold, HeldListed, Column};
+use super::Asked;
 use super::Listing;
 use super::Load;
-use super::Prepared;
 use super::Told;
 use super::Verdict;
-use super::prepare;
-use super::prepare::HEADS;
-use super::prepare::ROOM;
-use super::prepare::ROW;
-use super::prepare::ROWS;
-use demand::Lateness;
 use demand::frame::frame_load;
-use demand::late::late;
+use demand::frame::weigh;
 use demand::length::demand_at;
-use graph::skip::fewest_firings;
+use demand::length::fewest_firings;
+use late::Lateness;
+use late::search::late;
+use ready::Prepared;
+use ready::prepare;
+use ready::prepare::HEADS;
+use ready::prepare::ROOM;
+use ready::prepare::ROW;
+use ready::prepare::ROWS;
 use sheet::Refusal;
 use sheet::Written;
 use units::Firings;
@@ -36,24 +38,17 @@ fn verdict_of(n: usize, heads: &[u64], rows: &[u64], frame: Ticks) -> Verdict
     ensures { λ r. ⌜ HeldVerdict n (now (heads .entry)) (now (rows .entry)) (frame .n) r ⌝ }
 {
     let h = &heads[..3 * n];
-    let load = frame_load(h, rows, &rows[ROOM..], &rows[2 * ROOM..], ROW, frame);
+    let q = &rows[ROOM..];
+    let skips = &rows[2 * ROOM..];
+    let mut weight = [0u64; 8];
+    weigh(h, rows, q, skips, ROW, &mut weight);
+    let load = frame_load(h, rows, q, skips, ROW, &weight, frame);
     let sum = Load { load, frame };
     if frame.count() < load.count() {
         return Verdict::Overload(sum);
     }
-    let mut weight = [0u64; 8];
     let mut pieces = [0u64; 64];
-    let found = late(
-        h,
-        rows,
-        &rows[ROOM..],
-        &rows[2 * ROOM..],
-        ROW,
-        frame,
-        load,
-        &mut weight,
-        &mut pieces,
-    );
+    let found = late(h, rows, q, skips, ROW, &weight, frame, load, &mut pieces);
     match found {
         Lateness::At(t) => Verdict::Late(sum, t),
         Lateness::Never => Verdict::Accepted(sum),
@@ -93,19 +88,6 @@ fn demand_of(n: usize, heads: &[u64], rows: &[u64], length: u64) -> Told
     }
 }
 
-// 01, Demand at a length.
-pub fn demand(l: &[u32], length: u64) -> Told
-    ensures { λ r. ⌜ ListTold (now (l .entry)) (λ o. demand-told o length) r ⌝ }
-{
-    let mut heads = [0u64; HEADS];
-    let mut rows = [0u64; ROWS];
-    let prepared = prepare::list(l, &mut heads, &mut rows);
-    match prepared {
-        Prepared::Refused(r) => Told::Refused(r),
-        Prepared::Ready(_) => demand_of(l[0] as usize, &heads, &rows, length),
-    }
-}
-
 fn fewest_of(n: usize, heads: &[u64], rows: &[u64], graph: u64, actor: u64, k: u64) -> Told
     requires { ⌜ Held n (now heads) (now rows) ⌝ }
     ensures { λ r. ⌜ HeldTold n (now (heads .entry)) (now (rows .entry)) (λ o. fewest-told o graph actor k) r ⌝ }
@@ -129,17 +111,41 @@ fn fewest_of(n: usize, heads: &[u64], rows: &[u64], graph: u64, actor: u64, k: u
     }
 }
 
-// 01, Fewest firings of an actor of a graph for k outputs.
-pub fn fewest(l: &[u32], graph: u64, actor: u64, k: u64) -> Told
-    ensures { λ r. ⌜ ListTold (now (l .entry)) (λ o. fewest-told o graph actor k) r ⌝ }
+fn told_of(n: usize, heads: &[u64], rows: &[u64], which: Asked) -> Told
+    requires { ⌜ Held n (now heads) (now rows) ⌝ }
+    ensures { λ r. ⌜ HeldTold n (now (heads .entry)) (now (rows .entry)) (λ o. asked-told o which) r ⌝ }
+{
+    match which {
+        Asked::Demand(length) => demand_of(n, heads, rows, length),
+        Asked::Fewest(graph, actor, k) => fewest_of(n, heads, rows, graph, actor, k),
+    }
+}
+
+// What is asked of the sheet.
+pub fn ask(l: &[u32], which: Asked) -> Told
+    ensures { λ r. ⌜ ListTold (now (l .entry)) (λ o. asked-told o which) r ⌝ }
 {
     let mut heads = [0u64; HEADS];
     let mut rows = [0u64; ROWS];
     let prepared = prepare::list(l, &mut heads, &mut rows);
     match prepared {
         Prepared::Refused(r) => Told::Refused(r),
-        Prepared::Ready(_) => fewest_of(l[0] as usize, &heads, &rows, graph, actor, k),
+        Prepared::Ready(_) => told_of(l[0] as usize, &heads, &rows, which),
     }
+}
+
+// 01, Demand at a length.
+pub fn demand(l: &[u32], length: u64) -> Told
+    ensures { λ r. ⌜ ListTold (now (l .entry)) (λ o. demand-told o length) r ⌝ }
+{
+    ask(l, Asked::Demand(length))
+}
+
+// 01, Fewest firings of an actor of a graph for k outputs.
+pub fn fewest(l: &[u32], graph: u64, actor: u64, k: u64) -> Told
+    ensures { λ r. ⌜ ListTold (now (l .entry)) (λ o. fewest-told o graph actor k) r ⌝ }
+{
+    ask(l, Asked::Fewest(graph, actor, k))
 }
 
 // One room of a graph's row, a number for each of its actors.
@@ -186,11 +192,13 @@ fn tasks_of(n: usize, heads: &[u64], rows: &[u64], graph: u64, numbers: &mut [u6
     }
     let i = graph as usize;
     let h = &heads[..3 * n];
-    let count = demand::tasks::count(h, rows, &rows[ROOM..], &rows[2 * ROOM..], ROW, i);
+    let q = &rows[ROOM..];
+    let skips = &rows[2 * ROOM..];
+    let count = demand::tasks::count(h, rows, q, skips, ROW, i);
     if numbers.len() < count {
         return Written::Refused(Refusal::Room);
     }
-    demand::tasks::list(h, rows, &rows[ROOM..], &rows[2 * ROOM..], ROW, i, numbers);
+    demand::tasks::list(h, rows, q, skips, ROW, i, numbers);
     Written::Wrote(count)
 }
 
@@ -255,6 +263,6 @@ pub fn pack(l: &[u32], out: &mut [u8]) -> Written
     let prepared = prepare::list(l, &mut heads, &mut rows);
     match prepared {
         Prepared::Refused(r) => Written::Refused(r),
-        Prepared::Ready(_) => sheet::pack::list(l, out),
+        Prepared::Ready(_) => forms::pack::list(l, out),
     }
 }

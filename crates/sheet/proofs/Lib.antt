@@ -5,7 +5,4 @@ pub mod Forms
 pub mod Filling
 pub mod Parts
 pub mod Ranges
-pub mod Writing
-pub mod Unpacking
-pub mod Packing
 pub mod Table

@@ -1,12 +1,10 @@
-// The two forms of a load sheet: checked, unpacked and packed. Any bytes, any numbers.
+// The two forms of a load sheet, and answers 1 to 6 for both. Any bytes, any numbers.
 ghost use mathlib.Core.Path.{_≡_};
 ghost use Rattle.sheet.specs.Answer.{numberOf, placeOf};
 
 pub mod layout; // the room of a graph
 pub mod check; // answers 1 to 5
 pub mod range; // answer 6
-pub mod unpack; // bytes to numbers
-pub mod pack; // numbers to bytes
 
 // The refusals of document 01, with the graph's number where it gives a place.
 pub enum Refusal {

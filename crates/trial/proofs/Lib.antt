@@ -3,5 +3,3 @@ pub mod Places
 pub mod Chains
 pub mod Firing
 pub mod Toward
-pub mod Keeping
-pub mod Knots

@@ -3,4 +3,3 @@ pub mod flat; // the flat list of channels
 pub mod channel; // one channel of it
 pub mod links; // the channels at each actor
 pub mod run; // the trial run
-pub mod knot; // what has to be tried

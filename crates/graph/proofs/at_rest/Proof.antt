@@ -5,12 +5,6 @@ use Rattle.graph.proofs.Reaching.{rest-decides}
 use Rattle.graph.proofs.at_rest.Statement.{statement}
 use Rattle.graph.proofs.at_rest.Tie as tie
 
-with-requires : tie.Need-with-requires
-with-requires c κs = search needs
-
-covers-requires : tie.Need-covers-requires
-covers-requires c κs = search needs
-
 returns : tie.Need-returns
 returns c =
     let s = c .before .before .before in
@@ -18,4 +12,4 @@ returns c =
     rest-decides (graph-of (a .actors) (a .input) (a .output) (a .channels .now)) (a .back) (c .before .with .result) (c .covers .result) (s .pre .1) (c .before .with .ensures) (c .covers .ensures)
 
 pub at-rest-spec : {M : Type 1} → statement M
-at-rest-spec = tie.close (tie.spec with-requires covers-requires returns)
+at-rest-spec = tie.close (tie.spec (λ c κs. search needs) (λ c κs. search needs) returns)

@@ -7,7 +7,7 @@ use borrow.Author.Tests.{not-true, not-false}
 use Rattle.sdf.specs.Graph.{Graph}
 use Rattle.sets.proofs.Decided.{decided-yes, decided-no}
 use Rattle.trial.specs.Flat.{graph-of}
-use Rattle.graph.specs.Words.{AllFrom, AllTo}
+use Rattle.repeat.specs.Words.{AllFrom, AllTo}
 use Rattle.graph.proofs.Reaching.{reached-both, answer-found, answer-unreached, answer-unbalanced}
 use Rattle.graph.proofs.balance.Statement.{statement}
 use Rattle.graph.proofs.balance.Tie as tie

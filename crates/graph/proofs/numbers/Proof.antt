@@ -12,8 +12,8 @@ use Rattle.sdf.specs.Order.{Lives}
 use Rattle.sdf.specs.Balance.{Once}
 use Rattle.trial.specs.Flat.{graph-of, vector}
 use Rattle.trial.specs.Knot.{Awaits}
-use Rattle.graph.specs.Repetition.{Repeats, Balance-answer}
-use Rattle.graph.specs.declared.repetition.Numbering.{Numbering}
+use Rattle.repeat.specs.Repetition.{Repeats, Balance-answer}
+use Rattle.repeat.specs.declared.repetition.Numbering.{Numbering}
 use Rattle.graph.proofs.numbers.Statement.{statement}
 use Rattle.graph.proofs.numbers.Tie as tie
 

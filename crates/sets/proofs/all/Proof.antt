@@ -5,14 +5,8 @@ use Rattle.sets.proofs.Bits.{all-holds}
 use Rattle.sets.proofs.all.Statement.{statement}
 use Rattle.sets.proofs.all.Tie as tie
 
-sub-result : tie.Need-sub-result
-sub-result c = search needs
-
-shr-result : tie.Need-shr-result
-shr-result c = search needs
-
 returns : tie.Need-returns
 returns c = all-holds (c .args .n) (omega arith)
 
 pub all-spec : {M : Type 1} → statement M
-all-spec = tie.close (tie.spec sub-result shr-result returns)
+all-spec = tie.close (tie.spec (λ c. search needs) (λ c. search needs) returns)

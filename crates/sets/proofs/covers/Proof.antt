@@ -4,14 +4,8 @@ use Rattle.sets.proofs.Bits.{covers-empty}
 use Rattle.sets.proofs.covers.Statement.{statement}
 use Rattle.sets.proofs.covers.Tie as tie
 
-all-requires : tie.Need-all-requires
-all-requires c κs = search needs
-
-minus-requires : tie.Need-minus-requires
-minus-requires c κs = search needs
-
 returns : tie.Need-returns
 returns c = covers-empty (c .before .all .result) (c .before .before .args .set) (c .minus .result) (c .before .before .args .n) (c .before .all .ensures) (c .minus .ensures .0)
 
 pub covers-spec : {M : Type 1} → statement M
-covers-spec = tie.close (tie.spec all-requires minus-requires returns)
+covers-spec = tie.close (tie.spec (λ c κs. search needs) (λ c κs. search needs) returns)

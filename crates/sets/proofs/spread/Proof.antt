@@ -17,33 +17,12 @@ abbrev μ-loop : tie.MeasureT-loop
 loop-holds : tie.Need-loop-holds Inv-loop μ-loop
 loop-holds c = spreading-start _ _ _ (c .before .pre .2)
 
-least-requires : tie.Need-least-requires Inv-loop μ-loop
-least-requires c κs = search needs
-
-mul-minus : tie.Need-mul-minus Inv-loop μ-loop
-mul-minus c = search needs
-
-add-minus : tie.Need-add-minus Inv-loop μ-loop
-add-minus c = search needs
-
-mul-minus-2 : tie.Need-mul-minus-2 Inv-loop μ-loop
-mul-minus-2 c = search needs
-
 shared-slice-read-minus : tie.Need-shared-slice-read-minus Inv-loop μ-loop
 shared-slice-read-minus c =
     omega (arith, c .before .before .before .loop .inv .below (c .before .least .result) (c .before .before .before .loop .inv .waits (c .before .least .result) (c .before .least .ensures .1)))
 
-minus-requires : tie.Need-minus-requires Inv-loop μ-loop
-minus-requires c κs = search needs
-
 without-requires : tie.Need-without-requires Inv-loop μ-loop
 without-requires c κs = c .before .before .least .ensures .0
-
-joined-requires : tie.Need-joined-requires Inv-loop μ-loop
-joined-requires c κs = search needs
-
-joined-requires-2 : tie.Need-joined-requires-2 Inv-loop μ-loop
-joined-requires-2 c κs = search needs
 
 loop-less : tie.Need-loop-less Inv-loop μ-loop
 loop-less c =
@@ -81,15 +60,15 @@ spread-spec =
     Inv-loop
     μ-loop
     loop-holds
-    least-requires
-    mul-minus
-    add-minus
-    mul-minus-2
+    (λ c κs. search needs)
+    (λ c. search needs)
+    (λ c. search needs)
+    (λ c. search needs)
     shared-slice-read-minus
-    minus-requires
+    (λ c κs. search needs)
     without-requires
-    joined-requires
-    joined-requires-2
+    (λ c κs. search needs)
+    (λ c κs. search needs)
     loop-less
     loop-again
     returns)

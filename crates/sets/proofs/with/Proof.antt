@@ -5,14 +5,8 @@ use Rattle.sets.proofs.Bits.{put-flag}
 use Rattle.sets.proofs.with.Statement.{statement}
 use Rattle.sets.proofs.with.Tie as tie
 
-cast-result : tie.Need-cast-result
-cast-result c = search needs
-
-shl-result : tie.Need-shl-result
-shl-result c = search needs
-
 returns : tie.Need-returns
 returns c = put-flag (c .args .set) (c .args .v) (c .args .flag) (omega arith)
 
 pub with-spec : {M : Type 1} → statement M
-with-spec = tie.close (tie.spec cast-result shl-result returns)
+with-spec = tie.close (tie.spec (λ c. search needs) (λ c. search needs) returns)

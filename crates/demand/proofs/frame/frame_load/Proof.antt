@@ -3,20 +3,17 @@ use borrow.Author.Needs.{needs}
 use mathlib.Core.Path.{_≡_, _∙_}
 use Prim.Native.Nat.{_-_}
 use Rattle.sdf.specs.Sum.{sumTo}
-use Rattle.demand.specs.Lent.{works-of}
+use Rattle.demand.specs.Lent.{works-of, Weighed}
 use Rattle.demand.proofs.Costs.{Graphs, graph-load, graph, graphs-turn, load-added, load-whole}
 use Rattle.demand.proofs.frame.frame_load.Statement.{statement}
 use Rattle.demand.proofs.frame.frame_load.Tie as tie
 
 abbrev Inv-loop : tie.InvT-loop
-Inv-loop heads times q s room frame n sum₀ i₀ sum i = Graphs heads times q s room (frame .n) n i ×
-    (sum .n ≡ sumTo (graph-load (works-of heads times q s room) (frame .n)) i)
+Inv-loop heads times q s room weight frame n sum₀ i₀ sum i = Graphs heads times q s room (frame .n) n i ×
+    (sum .n ≡ sumTo (graph-load (works-of heads times q s room) (frame .n)) i) × Weighed (works-of heads times q s room) weight
 
 abbrev μ-loop : tie.MeasureT-loop
-μ-loop heads times q s room frame n sum₀ i₀ sum i = n - i
-
-of-requires : tie.Need-of-requires Inv-loop μ-loop
-of-requires c κs = search needs
+μ-loop heads times q s room weight frame n sum₀ i₀ sum i = n - i
 
 loop-holds : tie.Need-loop-holds Inv-loop μ-loop
 unfolding sumTo
@@ -28,23 +25,19 @@ graph-load-requires c κs = (
   graph (c .before .loop .inv .0)
       (c .loop-test .taken),
   c .before .loop .inv .0 .ticks,
+  c .before .loop .inv .2,
 )
 
 plus-requires : tie.Need-plus-requires Inv-loop μ-loop
 plus-requires c κs = load-added (c .before .before .loop .inv .0) (c .before .loop-test .taken) (c .before .before .loop .inv .1)
     (c .graph-load .ensures) .fits
 
-add-i : tie.Need-add-i Inv-loop μ-loop
-add-i c = search needs
-
-loop-less : tie.Need-loop-less Inv-loop μ-loop
-loop-less c = search needs
-
 loop-again : tie.Need-loop-again Inv-loop μ-loop
 loop-again c = (
   graphs-turn (c .before .before .before .loop .inv .0) (c .before .before .loop-test .taken),
   c .plus .ensures ∙ load-added (c .before .before .before .loop .inv .0) (c .before .before .loop-test .taken)
       (c .before .before .before .loop .inv .1) (c .before .graph-load .ensures) .sum,
+  c .before .before .before .loop .inv .2,
 )
 
 returns : tie.Need-returns Inv-loop μ-loop
@@ -56,11 +49,11 @@ frame-load-spec =
     (tie.spec
     Inv-loop
     μ-loop
-    of-requires
+    (λ c κs. search needs)
     loop-holds
     graph-load-requires
     plus-requires
-    add-i
-    loop-less
+    (λ c. search needs)
+    (λ c. search needs)
     loop-again
     returns)

@@ -12,31 +12,13 @@ Inv-loop step by m₀ m = Multiples step by m
 abbrev μ-loop : tie.MeasureT-loop
 μ-loop step by m₀ m = max-ticks + 1 - m
 
-count-requires : tie.Need-count-requires Inv-loop μ-loop
-count-requires c κs = search needs
-
-count-requires-2 : tie.Need-count-requires-2 Inv-loop μ-loop
-count-requires-2 c κs = search needs
-
 loop-holds : tie.Need-loop-holds Inv-loop μ-loop
 loop-holds c = multiples-start _ (search needs)
-
-rem-if1 : tie.Need-rem-if1 Inv-loop μ-loop
-rem-if1 c = search needs
-
-of-requires : tie.Need-of-requires Inv-loop μ-loop
-of-requires c κs = search needs
 
 returns : tie.Need-returns Inv-loop μ-loop
 returns c = rw
     (c .of .ensures, ← c .before .before .before .before .before .count .ensures, ← c .before .before .before .before .count2 .ensures)
     (multiples-found (c .before .before .before .loop .inv) (c .before .before .loop-test .taken) (c .before .if1 .taken))
-
-add-m : tie.Need-add-m Inv-loop μ-loop
-add-m c = search needs
-
-loop-less : tie.Need-loop-less Inv-loop μ-loop
-loop-less c = search needs
 
 loop-again : tie.Need-loop-again Inv-loop μ-loop
 loop-again c = multiples-turn (c .before .before .loop .inv) (c .before .loop-test .taken) (c .if1 .left)
@@ -51,13 +33,13 @@ multiple-spec =
     (tie.spec
     Inv-loop
     μ-loop
-    count-requires
-    count-requires-2
+    (λ c κs. search needs)
+    (λ c κs. search needs)
     loop-holds
-    rem-if1
-    of-requires
+    (λ c. search needs)
+    (λ c κs. search needs)
     returns
-    add-m
-    loop-less
+    (λ c. search needs)
+    (λ c. search needs)
     loop-again
     returns-2)

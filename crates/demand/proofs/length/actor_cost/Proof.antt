@@ -3,35 +3,8 @@ use borrow.Author.Needs.{needs}
 use Rattle.demand.proofs.length.actor_cost.Statement.{statement}
 use Rattle.demand.proofs.length.actor_cost.Tie as tie
 
-mul-of : tie.Need-mul-of
-mul-of c = search needs
-
-shared-slice-read-of : tie.Need-shared-slice-read-of
-shared-slice-read-of c = search needs
-
-of-requires : tie.Need-of-requires
-of-requires c κs = search needs
-
-mul-of-2 : tie.Need-mul-of-2
-mul-of-2 c = search needs
-
-shared-slice-read-of-2 : tie.Need-shared-slice-read-of-2
-shared-slice-read-of-2 c = search needs
-
-of-requires-2 : tie.Need-of-requires-2
-of-requires-2 c κs = search needs
-
 fewest-firings-requires : tie.Need-fewest-firings-requires
 fewest-firings-requires c κs = rw (c .before .before .of .ensures) (search needs)
-
-mul-of-3 : tie.Need-mul-of-3
-mul-of-3 c = search needs
-
-shared-slice-read-of-3 : tie.Need-shared-slice-read-of-3
-shared-slice-read-of-3 c = search needs
-
-of-requires-3 : tie.Need-of-requires-3
-of-requires-3 c κs = search needs
 
 times-requires : tie.Need-times-requires
 times-requires c κs =
@@ -45,15 +18,15 @@ pub actor-cost-spec : {M : Type 1} → statement M
 actor-cost-spec =
     tie.close
     (tie.spec
-    mul-of
-    shared-slice-read-of
-    of-requires
-    mul-of-2
-    shared-slice-read-of-2
-    of-requires-2
+    (λ c. search needs)
+    (λ c. search needs)
+    (λ c κs. search needs)
+    (λ c. search needs)
+    (λ c. search needs)
+    (λ c κs. search needs)
     fewest-firings-requires
-    mul-of-3
-    shared-slice-read-of-3
-    of-requires-3
+    (λ c. search needs)
+    (λ c. search needs)
+    (λ c κs. search needs)
     times-requires
     returns)

@@ -15,9 +15,6 @@ Inv-loop heads times q s room length n sum₀ i₀ sum i = Graphs heads times q 
 abbrev μ-loop : tie.MeasureT-loop
 μ-loop heads times q s room length n sum₀ i₀ sum i = n - i
 
-of-requires : tie.Need-of-requires Inv-loop μ-loop
-of-requires c κs = search needs
-
 loop-holds : tie.Need-loop-holds Inv-loop μ-loop
 unfolding sumTo
 loop-holds c = search needs
@@ -43,12 +40,6 @@ plus-requires : tie.Need-plus-requires Inv-loop μ-loop
 plus-requires c κs = demand-added (c .before .before .before .loop .inv .0) (c .before .before .loop-test .taken)
     (c .before .before .before .loop .inv .1) (c .before .graph-blocks .ensures) (c .graph-cost .ensures) .fits
 
-add-i : tie.Need-add-i Inv-loop μ-loop
-add-i c = search needs
-
-loop-less : tie.Need-loop-less Inv-loop μ-loop
-loop-less c = search needs
-
 loop-again : tie.Need-loop-again Inv-loop μ-loop
 loop-again c = (
   graphs-turn (c .before .before .before .before .loop .inv .0) (c .before .before .before .loop-test .taken),
@@ -66,12 +57,12 @@ demand-at-spec =
     (tie.spec
     Inv-loop
     μ-loop
-    of-requires
+    (λ c κs. search needs)
     loop-holds
     graph-blocks-requires
     graph-cost-requires
     plus-requires
-    add-i
-    loop-less
+    (λ c. search needs)
+    (λ c. search needs)
     loop-again
     returns)

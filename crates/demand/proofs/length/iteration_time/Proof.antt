@@ -17,14 +17,8 @@ Inv-loop heads times q s room i end first sum₀ v₀ sum v = Walk heads times q
 abbrev μ-loop : tie.MeasureT-loop
 μ-loop heads times q s room i end first sum₀ v₀ sum v = end - v
 
-actors-requires : tie.Need-actors-requires Inv-loop μ-loop
-actors-requires c κs = search needs
-
 mul-first : tie.Need-mul-first Inv-loop μ-loop
 mul-first c = let s = c .before .before .before .before .before in omega (arith, row-at-most (s .pre .0) (s .pre .1))
-
-of-requires : tie.Need-of-requires Inv-loop μ-loop
-of-requires c κs = search needs
 
 loop-holds : tie.Need-loop-holds Inv-loop μ-loop
 unfolding sumTo
@@ -39,12 +33,6 @@ actor-time-requires c κs = iteration-asked (c .before .loop .inv .0) (c .loop-t
 plus-requires : tie.Need-plus-requires Inv-loop μ-loop
 plus-requires c κs = iteration-added (c .before .before .loop .inv .0) (c .before .loop-test .taken)
     (c .before .before .loop .inv .1) (c .actor-time .ensures) .fits
-
-add-v : tie.Need-add-v Inv-loop μ-loop
-add-v c = search needs
-
-loop-less : tie.Need-loop-less Inv-loop μ-loop
-loop-less c = search needs
 
 loop-again : tie.Need-loop-again Inv-loop μ-loop
 loop-again c = (
@@ -62,14 +50,14 @@ iteration-time-spec =
     (tie.spec
     Inv-loop
     μ-loop
-    actors-requires
+    (λ c κs. search needs)
     mul-first
-    of-requires
+    (λ c κs. search needs)
     loop-holds
     add-actor-time
     actor-time-requires
     plus-requires
-    add-v
-    loop-less
+    (λ c. search needs)
+    (λ c. search needs)
     loop-again
     returns)

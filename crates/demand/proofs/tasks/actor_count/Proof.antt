@@ -5,9 +5,6 @@ use borrow.Author.Needs.{needs}
 use Rattle.demand.proofs.tasks.actor_count.Statement.{statement}
 use Rattle.demand.proofs.tasks.actor_count.Tie as tie
 
-rem-if1 : tie.Need-rem-if1
-rem-if1 c = search needs
-
 returns : tie.Need-returns
 returns c = sym (chosen 3 6 (c .if1 .taken))
 
@@ -15,4 +12,4 @@ returns-2 : tie.Need-returns-2
 returns-2 c = sym (passed 3 6 (c .if1 .left))
 
 pub actor-count-spec : {M : Type 1} → statement M
-actor-count-spec = tie.close (tie.spec rem-if1 returns returns-2)
+actor-count-spec = tie.close (tie.spec (λ c. search needs) returns returns-2)

@@ -18,9 +18,6 @@ Inv-loop heads times q s room i end first n₀ v₀ n v = Walk heads times q s r
 abbrev μ-loop : tie.MeasureT-loop
 μ-loop heads times q s room i end first n₀ v₀ n v = end - v
 
-actors-requires : tie.Need-actors-requires Inv-loop μ-loop
-actors-requires c κs = search needs
-
 mul-first : tie.Need-mul-first Inv-loop μ-loop
 mul-first c = let s = c .before .before .before .before .before in omega (arith, row-at-most (s .pre .0) (s .pre .1))
 
@@ -54,12 +51,6 @@ add-n c = record {
       (c .before .before .before .loop-test .taken) (c .actor-count .ensures) .0;
 }
 
-add-v : tie.Need-add-v Inv-loop μ-loop
-add-v c = search needs
-
-loop-less : tie.Need-loop-less Inv-loop μ-loop
-loop-less c = search needs
-
 loop-again : tie.Need-loop-again Inv-loop μ-loop
 loop-again c = (
   walk-turn (c .before .before .before .before .loop .inv .0) (c .before .before .before .loop-test .taken),
@@ -76,7 +67,7 @@ count-spec =
     (tie.spec
     Inv-loop
     μ-loop
-    actors-requires
+    (λ c κs. search needs)
     mul-first
     loop-holds
     add-at
@@ -86,7 +77,7 @@ count-spec =
     shared-slice-read-actor-count-2
     actor-count-requires
     add-n
-    add-v
-    loop-less
+    (λ c. search needs)
+    (λ c. search needs)
     loop-again
     returns)

@@ -16,29 +16,8 @@ Inv-loop heads times q s room i out₀ end first b period deadline to₀ v₀ ou
 abbrev μ-loop : tie.MeasureT-loop
 μ-loop heads times q s room i out₀ end first b period deadline to₀ v₀ out to v = end - v
 
-actors-requires : tie.Need-actors-requires Inv-loop μ-loop
-actors-requires c κs = search needs
-
 mul-first : tie.Need-mul-first Inv-loop μ-loop
 mul-first c = let s = c .before .before .before .before .before .before in omega (arith, row-at-most (s .pre .0) (s .pre .1))
-
-mul-b : tie.Need-mul-b Inv-loop μ-loop
-mul-b c = search needs
-
-mul-period : tie.Need-mul-period Inv-loop μ-loop
-mul-period c = search needs
-
-shared-slice-read-period : tie.Need-shared-slice-read-period Inv-loop μ-loop
-shared-slice-read-period c = search needs
-
-add-deadline : tie.Need-add-deadline Inv-loop μ-loop
-add-deadline c = search needs
-
-mul-deadline : tie.Need-mul-deadline Inv-loop μ-loop
-mul-deadline c = search needs
-
-shared-slice-read-deadline : tie.Need-shared-slice-read-deadline Inv-loop μ-loop
-shared-slice-read-deadline c = search needs
 
 loop-holds : tie.Need-loop-holds Inv-loop μ-loop
 unfolding tasks-to task-numbers
@@ -85,12 +64,6 @@ actor-tasks-requires : tie.Need-actor-tasks-requires Inv-loop μ-loop
 actor-tasks-requires c κs = listing-asked (c .before .before .before .before .before .loop .inv)
     (c .before .before .before .before .loop-test .taken)
 
-add-v : tie.Need-add-v Inv-loop μ-loop
-add-v c = search needs
-
-loop-less : tie.Need-loop-less Inv-loop μ-loop
-loop-less c = search needs
-
 loop-again : tie.Need-loop-again Inv-loop μ-loop
 loop-again c = listing-turn (c .before .before .before .before .before .before .before .before .loop .inv)
     (c .before .before .before .before .before .before .before .loop-test .taken) (c .before .before .actor-tasks .ensures)
@@ -107,14 +80,14 @@ list-spec =
     (tie.spec
     Inv-loop
     μ-loop
-    actors-requires
+    (λ c κs. search needs)
     mul-first
-    mul-b
-    mul-period
-    shared-slice-read-period
-    add-deadline
-    mul-deadline
-    shared-slice-read-deadline
+    (λ c. search needs)
+    (λ c. search needs)
+    (λ c. search needs)
+    (λ c. search needs)
+    (λ c. search needs)
+    (λ c. search needs)
     loop-holds
     add-at
     mul-actor-tasks
@@ -124,8 +97,8 @@ list-spec =
     mul-actor-tasks-3
     shared-slice-read-actor-tasks-3
     actor-tasks-requires
-    add-v
-    loop-less
+    (λ c. search needs)
+    (λ c. search needs)
     loop-again
     same-length
     returns)

@@ -4,16 +4,10 @@ use Rattle.graph.proofs.Reaching.{only-below, ready-heads, from-decides
 use Rattle.graph.proofs.reach.from_input.Statement.{statement}
 use Rattle.graph.proofs.reach.from_input.Tie as tie
 
-only-requires : tie.Need-only-requires
-only-requires c κs = search needs
-
 spread-requires : tie.Need-spread-requires
 spread-requires c κs =
     let s = c .before .before .before .before in
     ready-heads (s .pre .0) (s .pre .1) (c .only .result) (only-below (s .args .actors) (c .only .ensures) (s .pre .0 .sound .input))
-
-covers-requires : tie.Need-covers-requires
-covers-requires c κs = search needs
 
 returns : tie.Need-returns
 returns c =
@@ -21,4 +15,4 @@ returns c =
     from-decides (s .pre .0) (s .pre .1) (c .covers .result) (c .before .before .only .ensures) (c .before .spread .ensures) (c .covers .ensures)
 
 pub from-input-spec : {M : Type 1} → statement M
-from-input-spec = tie.close (tie.spec only-requires spread-requires covers-requires returns)
+from-input-spec = tie.close (tie.spec (λ c κs. search needs) spread-requires (λ c κs. search needs) returns)

@@ -6,9 +6,6 @@ use Rattle.graph.proofs.Reaching.{ready-tails, unskipped-all, to-decide
 use Rattle.graph.proofs.reach.to_output.Statement.{statement}
 use Rattle.graph.proofs.reach.to_output.Tie as tie
 
-covers-requires : tie.Need-covers-requires
-covers-requires c κs = search needs
-
 returns : tie.Need-returns
 returns c =
     let k = c .before in
@@ -19,9 +16,6 @@ spread-requires c κs =
     let s = c .before .before .before .before .before in
     ready-tails (s .pre .0) (s .pre .1) (s .args .zero) (s .pre .2 .actors)
 
-covers-requires-2 : tie.Need-covers-requires-2
-covers-requires-2 c κs = search needs
-
 returns-2 : tie.Need-returns-2
 returns-2 c =
     let s = c .before .before .before .before .before .before .before in
@@ -29,4 +23,4 @@ returns-2 c =
 
 pub to-output-spec : {M : Type 1} → statement M
 to-output-spec =
-    tie.close (tie.spec covers-requires returns spread-requires covers-requires-2 returns-2)
+    tie.close (tie.spec (λ c κs. search needs) returns spread-requires (λ c κs. search needs) returns-2)

@@ -4,9 +4,6 @@ use Rattle.graph.proofs.Reaching.{only-below, ready-tied, unskipped-met
 use Rattle.graph.proofs.reach.unskipped.Statement.{statement}
 use Rattle.graph.proofs.reach.unskipped.Tie as tie
 
-only-requires : tie.Need-only-requires
-only-requires c κs = search needs
-
 spread-requires : tie.Need-spread-requires
 spread-requires c κs =
     let s = c .before .before .before .before in
@@ -18,4 +15,4 @@ returns c =
     unskipped-met (s .pre .0) (s .pre .1) (c .before .only .ensures) (c .spread .ensures)
 
 pub unskipped-spec : {M : Type 1} → statement M
-unskipped-spec = tie.close (tie.spec only-requires spread-requires returns)
+unskipped-spec = tie.close (tie.spec (λ c κs. search needs) spread-requires returns)

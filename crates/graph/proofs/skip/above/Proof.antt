@@ -5,12 +5,6 @@ use borrow.Author.Needs.{needs}
 use Rattle.graph.proofs.skip.above.Statement.{statement}
 use Rattle.graph.proofs.skip.above.Tie as tie
 
-mul-most : tie.Need-mul-most
-mul-most c = search needs
-
-of-requires : tie.Need-of-requires
-of-requires c κs = search needs
-
 times-requires : tie.Need-times-requires
 times-requires c κs = rw (c .of .ensures) (omega (arith, mul-le-mul (c .before .pre .0) (c .before .pre .1)))
 
@@ -18,4 +12,4 @@ returns : tie.Need-returns
 returns c = cc
 
 pub above-spec : {M : Type 1} → statement M
-above-spec = tie.close (tie.spec mul-most of-requires times-requires returns)
+above-spec = tie.close (tie.spec (λ c. search needs) (λ c κs. search needs) times-requires returns)

@@ -57,9 +57,6 @@ ends c =
     let s = entry l in
     channel-ends _ _ _ (s .args .channels .now) _ _ _ (s .pre .0 .0 .sound) (omega (arith, l .loop .inv .walked .within, c .before .before .loop-test .taken)) (c .number .ensures) (sym (l .loop .inv .walked .ends (l .loop .at - 1) (omega (arith, c .before .before .loop-test .taken))))
 
-mul-of : tie.Need-mul-of Inv-loop μ-loop
-mul-of c = search needs
-
 slice-read-of : tie.Need-slice-read-of Inv-loop μ-loop
 slice-read-of c = let l = c .before .before .before .before in omega (arith, entry l .pre .0 .2, entry l .pre .0 .3, l .loop .inv .same-length)
 
@@ -147,7 +144,7 @@ lower-spec =
     mul-at-2
     shared-slice-read-at-2
     number-requires
-    mul-of
+    (λ c. search needs)
     slice-read-of
     (λ c κs. search needs)
     mul-of-2

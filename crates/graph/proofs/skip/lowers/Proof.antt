@@ -6,23 +6,8 @@ use Rattle.graph.proofs.Lowering.{lowers-says}
 use Rattle.graph.proofs.skip.lowers.Statement.{statement}
 use Rattle.graph.proofs.skip.lowers.Tie as tie
 
-number-requires : tie.Need-number-requires
-number-requires c κs = search needs
-
-of-requires : tie.Need-of-requires
-of-requires c κs = search needs
-
-spare-requires : tie.Need-spare-requires
-spare-requires c κs = search needs
-
-count-requires : tie.Need-count-requires
-count-requires c κs = search needs
-
 tokens-requires : tie.Need-tokens-requires
 tokens-requires c κs = rw (c .before .before .of .ensures, c .before .before .before .number .ensures) (omega arith)
-
-count-requires-2 : tie.Need-count-requires-2
-count-requires-2 c κs = search needs
 
 returns : tie.Need-returns
 returns c =
@@ -34,10 +19,10 @@ pub lowers-spec : {M : Type 1} → statement M
 lowers-spec =
     tie.close
     (tie.spec
-    number-requires
-    of-requires
-    spare-requires
-    count-requires
+    (λ c κs. search needs)
+    (λ c κs. search needs)
+    (λ c κs. search needs)
+    (λ c κs. search needs)
     tokens-requires
-    count-requires-2
+    (λ c κs. search needs)
     returns)

@@ -9,7 +9,7 @@ use Rattle.sdf.specs.Sum.{sumTo}
 use Rattle.sets.proofs.Decided.{decided-yes}
 use Rattle.trial.specs.Flat.{graph-of, vector}
 use Rattle.graph.specs.Skip.{Falling}
-use Rattle.graph.proofs.Lowering.{falling-start, watched-start, zero-skips, Settling, Looks, settling-turn, settling-less, settling-end}
+use Rattle.graph.proofs.Lowering.{falling-start, watched-start, zero-skips, Settling, Looks, settling-start, settling-turn, settling-less, settling-end}
 use Rattle.graph.proofs.skip.skips.Statement.{statement}
 use Rattle.graph.proofs.skip.skips.Tie as tie
 
@@ -51,52 +51,52 @@ link-requires c κs = let s = entry (c .before .before .before .before .before) 
 
 loop-holds : tie.Need-loop-holds Inv-loop μ-loop
 loop-holds c =
-    let a = c .before .before .before .before .before .before .before .before in
+    let a = c .before .before .before .before .before .before .before .before .before in
     let p = entry a .pre in
-    (refl, record { falling = falling a; watched = watched-start _ _ _ _ (p .0 .0) (p .0 .4) (a .start .ensures); actors = p .1 .1 .actors })
+    (refl, settling-start (p .0 .0) (falling a) (watched-start _ _ _ _ (p .0 .0) (p .0 .4) (a .start .ensures)) (c .entries .ensures))
 
 abbrev started : tie.At-loop Inv-loop μ-loop → tie.After-start Inv-loop μ-loop
-started l = l .before .before .before .before .before .before .before .before .before
+started l = l .before .before .before .before .before .before .before .before .before .before
 
 size : (l : tie.At-loop Inv-loop μ-loop) → length (l .loop .s) ≡ length (entry (started l) .args .s .now)
 size l = l .loop .inv .0 ∙ started l .start .kept .1 .1 .1 .0
 
-relax-requires : tie.Need-relax-requires Inv-loop μ-loop
-relax-requires c κs =
+lower-requires : tie.Need-lower-requires Inv-loop μ-loop
+lower-requires c κs =
     let t = c .before .before in
     let l = t .before .before in
     let p = entry (started l) .pre in (
-      (p .0 .0, l .before .before .before .link .ensures, l .loop .inv .1 .actors _ (t .greatest .ensures .1), omega (arith, size l, p .0 .3)),
-      (l .loop .inv .1 .falling, p .1 .0),
+      (p .0 .0, l .before .before .before .before .link .ensures, l .loop .inv .1 .actors _ (t .greatest .ensures .1), omega (arith, size l, p .0 .3)),
+      l .loop .inv .1 .falling,
     )
 
 without-requires : tie.Need-without-requires Inv-loop μ-loop
 without-requires c κs = c .before .before .before .before .before .greatest .ensures .0
 
-abbrev relaxed : tie.After-joined Inv-loop μ-loop → tie.After-relax Inv-loop μ-loop
-relaxed c = c .before .before .before .before
+abbrev lowered : tie.After-joined Inv-loop μ-loop → tie.After-lower Inv-loop μ-loop
+lowered c = c .before .before .before .before
 
-abbrev greatest : tie.After-relax Inv-loop μ-loop → tie.After-greatest Inv-loop μ-loop
+abbrev greatest : tie.After-lower Inv-loop μ-loop → tie.After-greatest Inv-loop μ-loop
 greatest c = c .before .before .before
 
 -- What one turn does.
-looks : (c : tie.After-joined Inv-loop μ-loop) → let r = relaxed c in let t = greatest r in let l = t .before .before in let a = started l in
-    Looks (graph a) (entry a .args .zero) (t .greatest .result) (l .loop .todo) (c .before .without .result) (r .relax .result) (c .joined .result) (l .loop .s) (r .relax .last .1 .1 .1 .1 .1 .1 .1 .1 .1 .0)
+looks : (c : tie.After-joined Inv-loop μ-loop) → let r = lowered c in let t = greatest r in let l = t .before .before in let a = started l in
+    Looks (graph a) (entry a .args .zero) (t .greatest .result) (l .loop .todo) (c .before .without .result) (r .lower .result) (c .joined .result) (l .loop .s) (r .lower .last .1 .1 .1 .1 .1 .1 .1 .0)
 looks c =
-    let r = relaxed c in
-    record { one = greatest r .greatest .ensures .1; off = c .before .without .ensures; lowered = r .relax .ensures; rest = c .joined .ensures }
+    let r = lowered c in
+    record { one = greatest r .greatest .ensures .1; off = c .before .without .ensures; lowered = r .lower .ensures; rest = c .joined .ensures }
 
 loop-less : tie.Need-loop-less Inv-loop μ-loop
-loop-less c = settling-less (greatest (relaxed c) .before .before .loop .inv .1) (looks c) (omega arith)
+loop-less c = settling-less (greatest (lowered c) .before .before .loop .inv .1) (looks c) (omega arith)
 
 loop-again : tie.Need-loop-again Inv-loop μ-loop
 loop-again c =
-    let r = relaxed c in
+    let r = lowered c in
     let l = greatest r .before .before in
-    (r .relax .kept .1 .1 .1 .1 .1 .1 .1 .1 .1 .0 ∙ l .loop .inv .0, settling-turn (l .loop .inv .1) (looks c))
+    (r .lower .kept .1 .1 .1 .1 .1 .1 .1 .0 ∙ l .loop .inv .0, settling-turn (l .loop .inv .1) (looks c))
 
 same-length-2 : tie.Need-same-length-2 Inv-loop μ-loop
-same-length-2 c = c .before .before .before .before .link .kept .1 .1 .1 .0
+same-length-2 c = c .before .before .before .before .before .link .kept .1 .1 .1 .0
 
 same-length-3 : tie.Need-same-length-3 Inv-loop μ-loop
 same-length-3 c = size (c .before)
@@ -115,9 +115,10 @@ skips-spec =
     same-length
     returns
     link-requires
+    (λ c κs. search needs)
     loop-holds
     (λ c κs. search needs)
-    relax-requires
+    lower-requires
     without-requires
     (λ c κs. search needs)
     loop-less

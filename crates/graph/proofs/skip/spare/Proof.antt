@@ -4,18 +4,6 @@ use borrow.Author.Needs.{needs}
 use Rattle.graph.proofs.skip.spare.Statement.{statement}
 use Rattle.graph.proofs.skip.spare.Tie as tie
 
-number-requires : tie.Need-number-requires
-number-requires c κs = search needs
-
-of-requires : tie.Need-of-requires
-of-requires c κs = search needs
-
-number-requires-2 : tie.Need-number-requires-2
-number-requires-2 c κs = search needs
-
-of-requires-2 : tie.Need-of-requires-2
-of-requires-2 c κs = search needs
-
 tokens-requires : tie.Need-tokens-requires
 tokens-requires c κs = rw (c .before .before .of .ensures, c .before .before .before .number .ensures) (omega arith)
 
@@ -29,10 +17,10 @@ pub spare-spec : {M : Type 1} → statement M
 spare-spec =
     tie.close
     (tie.spec
-    number-requires
-    of-requires
-    number-requires-2
-    of-requires-2
+    (λ c κs. search needs)
+    (λ c κs. search needs)
+    (λ c κs. search needs)
+    (λ c κs. search needs)
     tokens-requires
     plus-requires
     returns)

@@ -24,9 +24,6 @@ entry l = l .before .before .before
 loop-holds : tie.Need-loop-holds Inv-loop μ-loop
 loop-holds c = (search needs, filled-start _ _)
 
-has-requires : tie.Need-has-requires Inv-loop μ-loop
-has-requires c κs = search needs
-
 sub-of : tie.Need-sub-of Inv-loop μ-loop
 sub-of c =
     let l = c .before .before .before in
@@ -64,7 +61,7 @@ start-spec =
     loop-holds
     (λ c. search needs)
     (λ c. search needs)
-    has-requires
+    (λ c κs. search needs)
     sub-of
     mul-of-2
     (λ c κs. search needs)

@@ -2,23 +2,11 @@
 use mathlib.Core.Path.{refl, sym}
 use lib.Seq.{length-take-le}
 use borrow.Author.Needs.{needs}
-use Rattle.shambrukit.specs.Lines.{refused}
+use Rattle.ready.specs.Lines.{refused}
 use Rattle.shambrukit.specs.Verdict.{SheetVerdict}
 use Rattle.shambrukit.proofs.Sheets.{Unpacks, unpack-refuses, unpack-writes, verdict-as-list}
 use Rattle.shambrukit.proofs.bytes.judge.Statement.{statement}
 use Rattle.shambrukit.proofs.bytes.judge.Tie as tie
-
-slice-aggregate-sheet : tie.Need-slice-aggregate-sheet
-slice-aggregate-sheet c = search needs
-
-sheet-requires : tie.Need-sheet-requires
-sheet-requires c κs = search needs
-
-enum-known-unpacked : tie.Need-enum-known-unpacked
-enum-known-unpacked c = search needs
-
-enum-known-unpacked-2 : tie.Need-enum-known-unpacked-2
-enum-known-unpacked-2 c = search needs
 
 -- The unpacked form stands in the first n places.
 held :
@@ -35,9 +23,6 @@ array-share-prefix-numbers c = held c .there
 slice-aggregate-judge : tie.Need-slice-aggregate-judge
 slice-aggregate-judge c = sym (length-take-le _ _ (held (c .before) .there))
 
-judge-requires : tie.Need-judge-requires
-judge-requires c κs = search needs
-
 returns : tie.Need-returns
 unfolding SheetVerdict
 returns c =
@@ -50,12 +35,12 @@ pub judge-spec : {M : Type 1} → statement M
 judge-spec =
     tie.close
     (tie.spec
-    slice-aggregate-sheet
-    sheet-requires
-    enum-known-unpacked
-    enum-known-unpacked-2
+    (λ c. search needs)
+    (λ c κs. search needs)
+    (λ c. search needs)
+    (λ c. search needs)
     array-share-prefix-numbers
     slice-aggregate-judge
-    judge-requires
+    (λ c κs. search needs)
     returns
     returns-2)

@@ -2,22 +2,10 @@
 use mathlib.Core.Path.{refl, sym}
 use lib.Seq.{length-take-le}
 use borrow.Author.Needs.{needs}
-use Rattle.shambrukit.specs.Lines.{refused}
+use Rattle.ready.specs.Lines.{refused}
 use Rattle.shambrukit.proofs.Sheets.{Unpacks, unpack-refuses, unpack-writes, fills-as-list}
 use Rattle.shambrukit.proofs.bytes.listing.Statement.{statement}
 use Rattle.shambrukit.proofs.bytes.listing.Tie as tie
-
-slice-aggregate-sheet : tie.Need-slice-aggregate-sheet
-slice-aggregate-sheet c = search needs
-
-sheet-requires : tie.Need-sheet-requires
-sheet-requires c κs = search needs
-
-enum-known-unpacked : tie.Need-enum-known-unpacked
-enum-known-unpacked c = search needs
-
-enum-known-unpacked-2 : tie.Need-enum-known-unpacked-2
-enum-known-unpacked-2 c = search needs
 
 -- The unpacked form stands in the first n places.
 held :
@@ -34,15 +22,9 @@ array-share-prefix-numbers c = held c .there
 slice-aggregate-listing : tie.Need-slice-aggregate-listing
 slice-aggregate-listing c = sym (length-take-le _ _ (held (c .before) .there))
 
-listing-requires : tie.Need-listing-requires
-listing-requires c κs = search needs
-
 returns : tie.Need-returns
 returns c =
     (refused _, unpack-refuses _ refl (c .before .before .before .before .sheet .ensures .0) (c .before .unpacked .given .1), refl, refl)
-
-same-length : tie.Need-same-length
-same-length c = search needs
 
 returns-2 : tie.Need-returns-2
 returns-2 c = fills-as-list _ _ (held (c .before .before .before .before .before)) (c .before .before .listing .ensures)
@@ -51,13 +33,13 @@ pub listing-spec : {M : Type 1} → statement M
 listing-spec =
     tie.close
     (tie.spec
-    slice-aggregate-sheet
-    sheet-requires
-    enum-known-unpacked
-    enum-known-unpacked-2
+    (λ c. search needs)
+    (λ c κs. search needs)
+    (λ c. search needs)
+    (λ c. search needs)
     array-share-prefix-numbers
     slice-aggregate-listing
-    listing-requires
+    (λ c κs. search needs)
     returns
-    same-length
+    (λ c. search needs)
     returns-2)

@@ -1,23 +1,12 @@
--- 01: the unpacked form of a byte string: the refusal of answers 1 to 5, or what the unpacked form itself is handed out as.
-use mathlib.Core.Path.{refl, sym}
+-- 01: the unpacked form of a byte string: the refusal of answers 1 to 5, that of 6 to 12 of the form, 14, or the form.
+use mathlib.Core.Path.{refl, sym, _∙_}
 use lib.Seq.{length-take-le}
 use borrow.Author.Needs.{needs}
-use Rattle.shambrukit.specs.Lines.{refused}
-use Rattle.shambrukit.proofs.Sheets.{Unpacks, unpack-refuses, unpack-writes, form-as-list}
+use Rattle.ready.specs.Lines.{refused, ready}
+use Rattle.shambrukit.proofs.Sheets.{Unpacks, unpack-refuses, unpack-writes, sheet-as-list}
+use Rattle.shambrukit.proofs.Prepares.{refused-lines, ready-lines, unpack-whole}
 use Rattle.shambrukit.proofs.bytes.unpack_sheet.Statement.{statement}
 use Rattle.shambrukit.proofs.bytes.unpack_sheet.Tie as tie
-
-slice-aggregate-sheet : tie.Need-slice-aggregate-sheet
-slice-aggregate-sheet c = search needs
-
-sheet-requires : tie.Need-sheet-requires
-sheet-requires c κs = search needs
-
-enum-known-unpacked : tie.Need-enum-known-unpacked
-enum-known-unpacked c = search needs
-
-enum-known-unpacked-2 : tie.Need-enum-known-unpacked-2
-enum-known-unpacked-2 c = search needs
 
 -- The unpacked form stands in the first n places.
 held :
@@ -31,33 +20,46 @@ held c =
 array-share-prefix-numbers : tie.Need-array-share-prefix-numbers
 array-share-prefix-numbers c = held c .there
 
-slice-aggregate-hand-out : tie.Need-slice-aggregate-hand-out
-slice-aggregate-hand-out c = sym (length-take-le _ _ (held (c .before) .there))
-
-hand-out-requires : tie.Need-hand-out-requires
-hand-out-requires c κs = search needs
+slice-aggregate-list : tie.Need-slice-aggregate-list
+slice-aggregate-list c = sym (length-take-le _ _ (held (c .before) .there))
 
 returns : tie.Need-returns
 returns c =
     (refused _, unpack-refuses _ refl (c .before .before .before .before .sheet .ensures .0) (c .before .unpacked .given .1), refl, refl)
 
-same-length : tie.Need-same-length
-same-length c = search needs
-
 returns-2 : tie.Need-returns-2
-returns-2 c = form-as-list _ (held (c .before .before .before .before .before)) (c .before .before .hand-out .ensures)
+returns-2 c =
+    let a = c .before .before .before .before .before in
+    let u = held (a .before .before .before .before) in
+    (refused _, sheet-as-list _ u (refused-lines _ _ _ (a .list .ensures) (c .before .prepared .given .1)), refl, refl)
+
+returns-3 : tie.Need-returns-3
+returns-3 c =
+    let a = c .before .before .before .before .before .before .before .before in
+    let u = held (a .before .before .before .before) in
+    let p = c .before .before .before .before .enum-told .given in
+    let (js, lines) = ready-lines _ _ _ (a .list .ensures) (p .1) in
+    let F = p .0 .0 .n in
+    let sheet = c .before .before .sheet2 in
+    (ready js F, sheet-as-list _ u lines, sheet .ensures .0 ∙ unpack-whole _ _ js F (u .on), sheet .ensures .1)
 
 pub unpack-sheet-spec : {M : Type 1} → statement M
 unpack-sheet-spec =
     tie.close
     (tie.spec
-    slice-aggregate-sheet
-    sheet-requires
-    enum-known-unpacked
-    enum-known-unpacked-2
+    (λ c. search needs)
+    (λ c κs. search needs)
+    (λ c. search needs)
+    (λ c. search needs)
     array-share-prefix-numbers
-    slice-aggregate-hand-out
-    hand-out-requires
+    slice-aggregate-list
+    (λ c. search needs)
+    (λ c. search needs)
+    (λ c κs. search needs)
+    (λ c. search needs)
+    (λ c. search needs)
+    (λ c κs. search needs)
     returns
-    same-length
-    returns-2)
+    returns-2
+    (λ c. search needs)
+    returns-3)

@@ -5,15 +5,6 @@ use Rattle.shambrukit.specs.Calls.{toldOf}
 use Rattle.shambrukit.proofs.c.told.Statement.{statement}
 use Rattle.shambrukit.proofs.c.told.Tie as tie
 
-enum-known-t : tie.Need-enum-known-t
-enum-known-t c = search needs
-
-enum-known-t-2 : tie.Need-enum-known-t-2
-enum-known-t-2 c = search needs
-
-refused-requires : tie.Need-refused-requires
-refused-requires c κs = search needs
-
 returns : tie.Need-returns
 returns c = sym (ap toldOf (c .before .t .given .1))
 
@@ -21,4 +12,4 @@ returns-2 : tie.Need-returns-2
 returns-2 c = c .refused .ensures ∙ sym (ap toldOf (c .before .before .t2 .given .1))
 
 pub told-spec : {M : Type 1} → statement M
-told-spec = tie.close (tie.spec enum-known-t enum-known-t-2 refused-requires returns returns-2)
+told-spec = tie.close (tie.spec (λ c. search needs) (λ c. search needs) (λ c κs. search needs) returns returns-2)

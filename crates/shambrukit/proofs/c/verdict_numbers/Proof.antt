@@ -5,36 +5,6 @@ use Rattle.shambrukit.specs.Verdict.{rowOf}
 use Rattle.shambrukit.proofs.c.verdict_numbers.Statement.{statement}
 use Rattle.shambrukit.proofs.c.verdict_numbers.Tie as tie
 
-enum-known-v : tie.Need-enum-known-v
-enum-known-v c = search needs
-
-fitting-requires : tie.Need-fitting-requires
-fitting-requires c κs = search needs
-
-enum-known-v-2 : tie.Need-enum-known-v-2
-enum-known-v-2 c = search needs
-
-fitting-requires-2 : tie.Need-fitting-requires-2
-fitting-requires-2 c κs = search needs
-
-enum-known-v-3 : tie.Need-enum-known-v-3
-enum-known-v-3 c = search needs
-
-count-requires : tie.Need-count-requires
-count-requires c κs = search needs
-
-fitting-requires-3 : tie.Need-fitting-requires-3
-fitting-requires-3 c κs = search needs
-
-enum-known-v-4 : tie.Need-enum-known-v-4
-enum-known-v-4 c = search needs
-
-number-requires : tie.Need-number-requires
-number-requires c κs = search needs
-
-place-requires : tie.Need-place-requires
-place-requires c κs = search needs
-
 returns : tie.Need-returns
 returns c = c .fitting .ensures ∙ sym (ap rowOf (c .before .before .v .given .1))
 
@@ -55,16 +25,16 @@ pub verdict-numbers-spec : {M : Type 1} → statement M
 verdict-numbers-spec =
     tie.close
     (tie.spec
-    enum-known-v
-    fitting-requires
-    enum-known-v-2
-    fitting-requires-2
-    enum-known-v-3
-    count-requires
-    fitting-requires-3
-    enum-known-v-4
-    number-requires
-    place-requires
+    (λ c. search needs)
+    (λ c κs. search needs)
+    (λ c. search needs)
+    (λ c κs. search needs)
+    (λ c. search needs)
+    (λ c κs. search needs)
+    (λ c κs. search needs)
+    (λ c. search needs)
+    (λ c κs. search needs)
+    (λ c κs. search needs)
     returns
     returns-2
     returns-3

@@ -5,15 +5,6 @@ use Rattle.shambrukit.specs.Calls.{writtenOf}
 use Rattle.shambrukit.proofs.c.wrote.Statement.{statement}
 use Rattle.shambrukit.proofs.c.wrote.Tie as tie
 
-enum-known-w : tie.Need-enum-known-w
-enum-known-w c = search needs
-
-enum-known-w-2 : tie.Need-enum-known-w-2
-enum-known-w-2 c = search needs
-
-refused-requires : tie.Need-refused-requires
-refused-requires c κs = search needs
-
 returns : tie.Need-returns
 returns c = sym (ap writtenOf (c .before .w .given .1))
 
@@ -21,4 +12,4 @@ returns-2 : tie.Need-returns-2
 returns-2 c = c .refused .ensures ∙ sym (ap writtenOf (c .before .before .w2 .given .1))
 
 pub wrote-spec : {M : Type 1} → statement M
-wrote-spec = tie.close (tie.spec enum-known-w enum-known-w-2 refused-requires returns returns-2)
+wrote-spec = tie.close (tie.spec (λ c. search needs) (λ c. search needs) (λ c κs. search needs) returns returns-2)

@@ -18,32 +18,8 @@ there c = let a = c .before .before .before .before .before .before .before .bef
 returns : tie.Need-returns
 returns c = let a = c .before .before .before .args in fewest-graph (a .graph) (a .actor) (a .k) (c .if1 .taken)
 
-mul-if2 : tie.Need-mul-if2
-mul-if2 c = search needs
-
-add-if2 : tie.Need-add-if2
-add-if2 c = search needs
-
-mul-if2-2 : tie.Need-mul-if2-2
-mul-if2-2 c = search needs
-
-shared-slice-read-if2 : tie.Need-shared-slice-read-if2
-shared-slice-read-if2 c = search needs
-
 returns-2 : tie.Need-returns-2
 returns-2 c = let a = c .before .before .before .before .before .args in fewest-actor (a .graph) (a .actor) (a .k) (omega arith) (c .if2 .taken)
-
-outputs-requires : tie.Need-outputs-requires
-outputs-requires c κs = search needs
-
-enum-told : tie.Need-enum-told
-enum-told c = search needs
-
-enum-known-asked : tie.Need-enum-known-asked
-enum-known-asked c = search needs
-
-mul-at : tie.Need-mul-at
-mul-at c = search needs
 
 add-at : tie.Need-add-at
 add-at c = omega (arith, there c, c .before .before .before .before .before .before .before .before .before .good .1 .1 .0)
@@ -57,12 +33,6 @@ mul-of c = omega (arith, there c, c .before .before .before .before .before .bef
 shared-slice-read-of : tie.Need-shared-slice-read-of
 shared-slice-read-of c = omega (arith, there (c .before))
 
-of-requires : tie.Need-of-requires
-of-requires c κs = search needs
-
-mul-of-2 : tie.Need-mul-of-2
-mul-of-2 c = search needs
-
 add-of-2 : tie.Need-add-of-2
 add-of-2 c = omega (arith, there (c .before .before), c .before .before .before .before .before .before .before .before .before .before .before .good .1 .1 .0)
 
@@ -72,17 +42,11 @@ mul-of-3 c = omega (arith, there (c .before .before), c .before .before .before 
 shared-slice-read-of-2 : tie.Need-shared-slice-read-of-2
 shared-slice-read-of-2 c = omega (arith, there (c .before .before .before))
 
-of-requires-2 : tie.Need-of-requires-2
-of-requires-2 c κs = search needs
-
 fewest-firings-requires : tie.Need-fewest-firings-requires
 fewest-firings-requires c κs =
     let a = c .before .before .before .before .before .before .before .before .before .before .before .before .before .args in
     let (inside, same) = firings-told 0 max-outputs (a .k) (c .before .before .before .before .before .before .before .outputs .ensures) (c .before .before .before .before .before .asked .given .1) in
     fewest-fits (a .graph) (a .actor) (a .k) (c .before .before .before .before .before .before .before .before .before .before .if1 .left) (c .before .before .before .before .before .before .before .before .if2 .left) (c .before .before .before .before .before .before .before .before .before .before .before .before .before .pre) (inside .1) same (c .before .before .of .ensures)
-
-count-requires : tie.Need-count-requires
-count-requires c κs = search needs
 
 returns-3 : tie.Need-returns-3
 returns-3 c =
@@ -103,26 +67,26 @@ fewest-of-spec =
     tie.close
     (tie.spec
     returns
-    mul-if2
-    add-if2
-    mul-if2-2
-    shared-slice-read-if2
+    (λ c. search needs)
+    (λ c. search needs)
+    (λ c. search needs)
+    (λ c. search needs)
     returns-2
-    outputs-requires
-    enum-told
-    enum-known-asked
-    mul-at
+    (λ c κs. search needs)
+    (λ c. search needs)
+    (λ c. search needs)
+    (λ c. search needs)
     add-at
     add-of
     mul-of
     shared-slice-read-of
-    of-requires
-    mul-of-2
+    (λ c κs. search needs)
+    (λ c. search needs)
     add-of-2
     mul-of-3
     shared-slice-read-of-2
-    of-requires-2
+    (λ c κs. search needs)
     fewest-firings-requires
-    count-requires
+    (λ c κs. search needs)
     returns-3
     returns-4)

@@ -2,7 +2,7 @@
 use borrow.Author.Needs.{needs}
 use native.Mathlib.Omega.{arith}
 use mathlib.Core.Path.{refl}
-use Rattle.shambrukit.specs.Lines.{refused, ready}
+use Rattle.ready.specs.Lines.{refused, ready}
 use Rattle.shambrukit.proofs.Prepares.{ReadyHeld, refused-lines, ready-held}
 use Rattle.shambrukit.specs.Verdict.{ListVerdict}
 use Rattle.shambrukit.proofs.list.judge.Statement.{statement}
@@ -12,32 +12,11 @@ use Rattle.shambrukit.proofs.list.judge.Tie as tie
 held : (c : tie.After-prepared2) → ReadyHeld (c .before .before .before .before .before .before .before .before .args .l .now) (c .before .before .before .before .list .last .1 .0) (c .before .before .before .before .list .last .1 .1 .0) (c .prepared2 .given .0 .0 .n)
 held c = ready-held _ _ _ (c .before .before .before .before .list .ensures) (c .prepared2 .given .1) (search needs) (search needs)
 
-slice-aggregate-list : tie.Need-slice-aggregate-list
-slice-aggregate-list c = search needs
-
-slice-aggregate-list-2 : tie.Need-slice-aggregate-list-2
-slice-aggregate-list-2 c = search needs
-
-list-requires : tie.Need-list-requires
-list-requires c κs = search needs
-
-enum-known-prepared : tie.Need-enum-known-prepared
-enum-known-prepared c = search needs
-
-enum-known-prepared-2 : tie.Need-enum-known-prepared-2
-enum-known-prepared-2 c = search needs
-
 shared-slice-read-verdict-of : tie.Need-shared-slice-read-verdict-of
 shared-slice-read-verdict-of c = held (c .before .before) .count-there
 
 cast-verdict-of : tie.Need-cast-verdict-of
 cast-verdict-of c = omega (arith, c .shared-slice-known2 .given 0)
-
-slice-aggregate-verdict-of : tie.Need-slice-aggregate-verdict-of
-slice-aggregate-verdict-of c = search needs
-
-slice-aggregate-verdict-of-2 : tie.Need-slice-aggregate-verdict-of-2
-slice-aggregate-verdict-of-2 c = search needs
 
 verdict-of-requires : tie.Need-verdict-of-requires
 verdict-of-requires c κs = let h = held (c .before .before .before .before) in (h .js, h .stand, h .framed)
@@ -54,15 +33,15 @@ pub judge-spec : {M : Type 1} → statement M
 judge-spec =
     tie.close
     (tie.spec
-    slice-aggregate-list
-    slice-aggregate-list-2
-    list-requires
-    enum-known-prepared
-    enum-known-prepared-2
+    (λ c. search needs)
+    (λ c. search needs)
+    (λ c κs. search needs)
+    (λ c. search needs)
+    (λ c. search needs)
     shared-slice-read-verdict-of
     cast-verdict-of
-    slice-aggregate-verdict-of
-    slice-aggregate-verdict-of-2
+    (λ c. search needs)
+    (λ c. search needs)
     verdict-of-requires
     returns
     returns-2)

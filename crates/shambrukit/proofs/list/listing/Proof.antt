@@ -2,7 +2,7 @@
 use borrow.Author.Needs.{needs}
 use native.Mathlib.Omega.{arith}
 use mathlib.Core.Path.{refl}
-use Rattle.shambrukit.specs.Lines.{refused, ready}
+use Rattle.ready.specs.Lines.{refused, ready}
 use Rattle.shambrukit.proofs.Prepares.{ReadyHeld, refused-lines, ready-held}
 use Rattle.shambrukit.proofs.list.listing.Statement.{statement}
 use Rattle.shambrukit.proofs.list.listing.Tie as tie
@@ -11,41 +11,17 @@ use Rattle.shambrukit.proofs.list.listing.Tie as tie
 held : (c : tie.After-enum-told) → ReadyHeld (c .before .before .before .before .before .before .before .before .before .args .l .now) (c .before .before .before .before .list .last .1 .0) (c .before .before .before .before .list .last .1 .1 .0) (c .enum-told .given .0 .0 .n)
 held c = ready-held _ _ _ (c .before .before .before .before .list .ensures) (c .enum-told .given .1) (search needs) (search needs)
 
-slice-aggregate-list : tie.Need-slice-aggregate-list
-slice-aggregate-list c = search needs
-
-slice-aggregate-list-2 : tie.Need-slice-aggregate-list-2
-slice-aggregate-list-2 c = search needs
-
-list-requires : tie.Need-list-requires
-list-requires c κs = search needs
-
-enum-known-prepared : tie.Need-enum-known-prepared
-enum-known-prepared c = search needs
-
-enum-told : tie.Need-enum-told
-enum-told c = search needs
-
 shared-slice-read-listing-of : tie.Need-shared-slice-read-listing-of
 shared-slice-read-listing-of c = held (c .before) .count-there
 
 cast-listing-of : tie.Need-cast-listing-of
 cast-listing-of c = omega (arith, c .shared-slice-known2 .given 0)
 
-slice-aggregate-listing-of : tie.Need-slice-aggregate-listing-of
-slice-aggregate-listing-of c = search needs
-
-slice-aggregate-listing-of-2 : tie.Need-slice-aggregate-listing-of-2
-slice-aggregate-listing-of-2 c = search needs
-
 listing-of-requires : tie.Need-listing-of-requires
 listing-of-requires c κs = let h = held (c .before .before .before .before) in (h .js, h .stand)
 
 returns : tie.Need-returns
 returns c = (refused _, refused-lines _ _ _ (c .before .before .before .before .before .list .ensures) (c .before .prepared .given .1), refl, refl)
-
-same-length : tie.Need-same-length
-same-length c = search needs
 
 returns-2 : tie.Need-returns-2
 returns-2 c =
@@ -58,16 +34,16 @@ pub listing-spec : {M : Type 1} → statement M
 listing-spec =
     tie.close
     (tie.spec
-    slice-aggregate-list
-    slice-aggregate-list-2
-    list-requires
-    enum-known-prepared
-    enum-told
+    (λ c. search needs)
+    (λ c. search needs)
+    (λ c κs. search needs)
+    (λ c. search needs)
+    (λ c. search needs)
     shared-slice-read-listing-of
     cast-listing-of
-    slice-aggregate-listing-of
-    slice-aggregate-listing-of-2
+    (λ c. search needs)
+    (λ c. search needs)
     listing-of-requires
     returns
-    same-length
+    (λ c. search needs)
     returns-2)

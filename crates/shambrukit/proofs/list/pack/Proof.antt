@@ -1,7 +1,7 @@
 -- `list::pack` meets its contract: past the lines 3 to 12 only 14 is left.
 use borrow.Author.Needs.{needs}
 use mathlib.Core.Path.{refl, _∙_}
-use Rattle.shambrukit.specs.Lines.{refused, ready}
+use Rattle.ready.specs.Lines.{refused, ready}
 use Rattle.shambrukit.proofs.Prepares.{ReadyHeld, refused-lines, ready-held, pack-whole}
 use Rattle.shambrukit.proofs.list.pack.Statement.{statement}
 use Rattle.shambrukit.proofs.list.pack.Tie as tie
@@ -10,29 +10,8 @@ use Rattle.shambrukit.proofs.list.pack.Tie as tie
 held : (c : tie.After-enum-told) → ReadyHeld (c .before .before .before .before .before .before .before .before .before .args .l .now) (c .before .before .before .before .list .last .1 .0) (c .before .before .before .before .list .last .1 .1 .0) (c .enum-told .given .0 .0 .n)
 held c = ready-held _ _ _ (c .before .before .before .before .list .ensures) (c .enum-told .given .1) (search needs) (search needs)
 
-slice-aggregate-list : tie.Need-slice-aggregate-list
-slice-aggregate-list c = search needs
-
-slice-aggregate-list-2 : tie.Need-slice-aggregate-list-2
-slice-aggregate-list-2 c = search needs
-
-list-requires : tie.Need-list-requires
-list-requires c κs = search needs
-
-enum-known-prepared : tie.Need-enum-known-prepared
-enum-known-prepared c = search needs
-
-enum-told : tie.Need-enum-told
-enum-told c = search needs
-
-list-requires-2 : tie.Need-list-requires-2
-list-requires-2 c κs = search needs
-
 returns : tie.Need-returns
 returns c = (refused _, refused-lines _ _ _ (c .before .before .before .before .before .list .ensures) (c .before .prepared .given .1), refl, refl)
-
-same-length : tie.Need-same-length
-same-length c = search needs
 
 returns-2 : tie.Need-returns-2
 returns-2 c =
@@ -45,12 +24,12 @@ pub pack-spec : {M : Type 1} → statement M
 pack-spec =
     tie.close
     (tie.spec
-    slice-aggregate-list
-    slice-aggregate-list-2
-    list-requires
-    enum-known-prepared
-    enum-told
-    list-requires-2
+    (λ c. search needs)
+    (λ c. search needs)
+    (λ c κs. search needs)
+    (λ c. search needs)
+    (λ c. search needs)
+    (λ c κs. search needs)
     returns
-    same-length
+    (λ c. search needs)
     returns-2)

@@ -1,0 +1,4 @@
+pub mod Graphs
+pub mod Lines
+pub mod Rows
+pub mod Ready
