@@ -28,7 +28,7 @@ use piece::look;
 use units::Ticks;
 
 // Looks at one window before the search begins again with a table.
-const LOOKS: u64 = 256;
+const LOOKS: u64 = 1024;
 
 // A late length, or none, or more looks are needed than there were.
 enum Found {
