@@ -1,5 +1,7 @@
 // The numbers of one graph: reach, repetition numbers, trial run, at rest, skips (01, answers 7 to 11). It knows
 // no sheet, and takes up to 64 actors and 256 channels: a set of actors is the bits of one word.
+#![tactic(auto)]
+
 ghost use Rattle.std.specs.Prelude.{◌≡◌, ◌+◌, ◌*◌, ◌/◌, ◌<◌, ◌≤◌, length};
 ghost use Rattle.sets.specs.Decides.{Decides};
 ghost use Rattle.sdf.specs.Order.{AtRest};
@@ -16,7 +18,7 @@ pub mod reach; // 01, answer 7
 pub mod skip; // 01, Skip numbers
 
 // 01, answers 7 to 11, or none of them.
-#[derive(Drop)]
+#[derive(Clone, Copy)]
 pub enum GraphAnswer {
     Fine,
     Reach,

@@ -1,5 +1,7 @@
 // Graphs on both sides of each line of answers 7 to 11 (01), through the engine: a line for each, with the answer and, where that
 // is 0, the repetition numbers and the skips.
+#![tactic(auto)]
+
 ghost use Rattle.std.specs.Prelude.{◌≤◌, length};
 ghost use Rattle.trial.specs.Flat.{graph_of};
 ghost use Rattle.graphs.specs.Small.{Small};

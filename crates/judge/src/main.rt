@@ -1,5 +1,7 @@
 // One sheet from standard input, one line to standard output: answer, place, frame load, frame, length (01, Sheets on both sides
 // of each line). A sheet of more than 65,535 bytes cannot have a right length field, so it is enough to read one byte more.
+#![tactic(auto)]
+
 use libc::{STDIN_FILENO, STDOUT_FILENO};
 
 fn print_after(n: u64, mark: &[u8]) {

@@ -1,6 +1,8 @@
 // 01, Deadlock: who waits for nobody that is left fires all its firings at once, and who is awaited by nobody that is left goes last.
 // Only the core between them is tried, on the channels within it on which somebody has to wait, and only for its least share of the
 // firings: after that its tokens are as before.
+#![tactic(auto)]
+
 ghost use Rattle.std.specs.Prelude.{◌≡◌, true, ℕ, ◌+◌, ◌*◌, ◌/◌, ◌<◌, ◌≤◌, length, take, get_or};
 ghost use Rattle.std.specs.Int.{◌∣◌};
 ghost use Rattle.units.specs.Bounds.{max_repetition};

@@ -24,7 +24,7 @@ use units::Ticks;
 const LOOKS: u64 = 1024;
 
 // A late length, or none, or more looks are needed than there were.
-#[derive(Drop)]
+#[derive(Clone, Copy)]
 enum Found {
     At(Ticks),
     Never,

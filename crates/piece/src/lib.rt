@@ -1,5 +1,7 @@
 // 01, Demand at a length, from the straight piece and the span of lengths of each graph that were met last: nothing is divided while
 // the length stays in the span or steps down a period on the piece, and no actor is looked at while the blocks due stay on the piece.
+#![tactic(auto)]
+
 ghost use Rattle.std.specs.Prelude.{◌≡◌, ◌≢◌, true, ◌+◌, ◌*◌, ◌/◌, ◌^◌, ◌<◌, ◌≤◌, min, max};
 ghost use lib.ListN.{length, get_or};
 ghost use Rattle.units.specs.Bounds.{max_ticks};
@@ -12,7 +14,7 @@ use demand::length::{actors, graph_blocks};
 use units::Ticks;
 
 // From `low` to `high` blocks due a graph asks `each` ticks for every block, less `behind`.
-#[derive(Drop)]
+#[derive(Clone, Copy)]
 struct Piece {
     low: u64,
     high: u64,

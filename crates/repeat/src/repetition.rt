@@ -19,7 +19,7 @@ use units::{Firings, Tokens};
 
 // What the search for the numbers comes to: found, or no balanced vector within the bound, or an actor that the input does not
 // reach.
-#[derive(Drop)]
+#[derive(Clone, Copy)]
 pub enum Numbering {
     Found,
     Unbalanced,

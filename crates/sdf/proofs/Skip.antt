@@ -4,7 +4,7 @@ use mathlib.Core.Path.{◌≡◌, refl, ap}
 use mathlib.Core.Logic.{◌⊎◌, inl, inr, ⊎_elim, ⊎_swap}
 use mathlib.Core.List.{List, [], ◌∷◌}
 use Prim.Native.Nat.{ℕ, ◌+◌, ◌*◌, ◌/◌, ◌^◌, min, max, ◌<◌, ◌≤◌, zero-le}
-use native.Mathlib.Nat.{le_refl, le_antisymm, le_trans, mul-le-mul, mul-le-mul_right, mul-pos, le-mul_of_pos_right, div-le_of_le-mul, div-mul-le_self, le-div_iff_mul-le, div-zero, eq-zero-or-pos, le-min, min-le_left, le_of_lt, not-le_of_lt, max_le, le-max_left, le-max_right}
+use native.Mathlib.Nat.{le_refl, le_antisymm, le_trans, mul-le-mul, mul-le-mul_right, mul-pos, le-mul_of_pos_right, div-le_of_le-mul, div-mul-le_self, le-div_iff_mul-le, div-zero, eq-zero-or-pos, le-min, min-le_left, le_of_lt, not-le_of_lt, max-le, le-max_left, le-max_right}
 use native.Mathlib.Omega.{arith}
 use lib.ListN.{length}
 use Rattle.units.specs.Bounds.{engine_actors, max_tokens, max_repetition, max_rate}
@@ -40,7 +40,7 @@ module _ (g : Graph) where
         output = omega (arith, a.output, b.output);
         channel = λ c l.
             let e = g.channel c in
-            max_le
+            max-le
             (le_trans (a.channel c l) (allowed_mono e _ _ (le-max_left (x e.head) (y e.head))))
             (le_trans (b.channel c l) (allowed_mono e _ _ (le-max_right (x e.head) (y e.head))));
       }

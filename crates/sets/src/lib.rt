@@ -1,4 +1,6 @@
 // Sets of up to 64 actors, each the bits of one word, and slices of such words.
+#![tactic(auto)]
+
 ghost use Rattle.std.specs.Prelude.{◌≡◌, cond, ℕ, ◌*◌, ◌/◌, ◌-◌, ◌^◌, ◌<◌, ◌≤◌, min, max, length, get_or};
 ghost use Rattle.sets.specs.Decides.{Decides};
 ghost use Rattle.sets.specs.Sets.{has, Covers, Below, Put, Marked, word, Spread};

@@ -9,7 +9,7 @@ use super::{Load, Told, Verdict, bytes, list};
 use sheet::{Refusal, Written};
 
 #[repr(C)]
-#[derive(Drop)]
+#[derive(Clone, Copy)]
 pub struct VerdictNumbers {
     pub answer: u64,
     pub place: u64,
@@ -19,7 +19,7 @@ pub struct VerdictNumbers {
 }
 
 #[repr(C)]
-#[derive(Drop)]
+#[derive(Clone, Copy)]
 pub struct ResultNumbers {
     pub answer: u64,
     pub place: u64,

@@ -1,4 +1,6 @@
 // The two forms of a load sheet, and answers 1 to 6 for both. Any bytes, any numbers.
+#![tactic(auto)]
+
 ghost use Rattle.std.specs.Prelude.{◌≡◌};
 ghost use Rattle.sheet.specs.Answer.{number_of, place_of};
 
@@ -7,7 +9,7 @@ pub mod check; // answers 1 to 5
 pub mod range; // answer 6
 
 // The refusals of document 01, with the graph's number where it gives a place.
-#[derive(Drop)]
+#[derive(Clone, Copy)]
 pub enum Refusal {
     Length,
     Version,
@@ -73,14 +75,14 @@ impl Refusal {
 }
 
 // What a part of the table says: the lines below decide, or a refusal.
-#[derive(Drop)]
+#[derive(Clone, Copy)]
 pub enum Answer {
     On,
     No(Refusal),
 }
 
 // What a call that fills lent memory says: how many numbers or bytes it wrote, or a refusal.
-#[derive(Drop)]
+#[derive(Clone, Copy)]
 pub enum Written {
     Wrote(usize),
     Refused(Refusal),

@@ -6,7 +6,7 @@ ghost use Rattle.trial.specs.Read.{seen};
 use units::Tokens;
 
 // In document 01's order.
-#[derive(Drop)]
+#[derive(Clone, Copy)]
 pub struct Channel {
     pub tail: usize,
     pub head: usize,

@@ -1,37 +1,39 @@
 // Ticks, firings and tokens: three counts that never stand for one another. The bounds of document 01 stand here once, each
 // with the count that it bounds.
+#![tactic(auto)]
+
 ghost use Rattle.std.specs.Prelude.{◌≡◌, ◌+◌, ◌-◌, ◌*◌, ◌/◌, ◌^◌, ◌<◌};
 ghost use Rattle.units.specs.Bounds.{max_ticks, max_time, max_repetition, max_outputs, max_rate, max_tokens};
 ghost use Rattle.units.specs.Within.{between, ticks_within, firings_within, tokens_within};
 
-#[derive(Drop)]
+#[derive(Clone, Copy)]
 pub struct Ticks {
     n: u64,
 }
 
-#[derive(Drop)]
+#[derive(Clone, Copy)]
 pub struct Firings {
     n: u64,
 }
 
-#[derive(Drop)]
+#[derive(Clone, Copy)]
 pub struct Tokens {
     n: u64,
 }
 
-#[derive(Drop)]
+#[derive(Clone, Copy)]
 pub enum SomeTicks {
     Within(Ticks),
     Outside,
 }
 
-#[derive(Drop)]
+#[derive(Clone, Copy)]
 pub enum SomeFirings {
     Within(Firings),
     Outside,
 }
 
-#[derive(Drop)]
+#[derive(Clone, Copy)]
 pub enum SomeTokens {
     Within(Tokens),
     Outside,

@@ -1,5 +1,7 @@
 // Many sheets from standard input, each behind its length in 4 bytes, big-endian; a line for each, as the program `judge` prints
 // it.
+#![tactic(auto)]
+
 use libc::{STDIN_FILENO, STDOUT_FILENO};
 
 fn print_after(n: u64, mark: &[u8]) {
