@@ -4,7 +4,7 @@ use mathlib.Core.Logic.{inl, inr, ⊎_elim, ◌⊎◌, ◌≢◌}
 use mathlib.Core.List.{List}
 use Prim.Native.Nat.{ℕ, ◌+◌, ◌*◌, ◌-◌, ◌/◌, ◌^◌, ◌<◌, ◌≤◌, min, max}
 use native.Mathlib.Nat.{le_refl, le_trans, le_antisymm, lt_of_le_of_lt, le_of_lt, sub-eq-zero_of_le, sub-add_cancel, mul-le-mul, mul-le-mul_right, lt_of_mul-lt-mul_left}
-use native.Mathlib.Nat.{le-div_iff_mul-le, div-lt_iff_lt-mul, lt-mul-div-succ, min-le_left, min-le_right, le-min, le-max_left, le-max_right, max_le}
+use native.Mathlib.Nat.{le-div_iff_mul-le, div-lt_iff_lt-mul, lt-mul-div-succ, min-le_left, min-le_right, le-min, le-max_left, le-max_right, max-le}
 use native.Mathlib.Omega.{arith}
 use lib.Dec.{lit<}
 use lib.ListN.{length, get_or, set, length-set}
@@ -78,7 +78,7 @@ module _ {p : code.Piece} {t q s k : ℕ} (j : Joins p t q s k) where
   joined_busy {l} h e = record {
     low = omega (arith, le-max_left p.low ((s + (q - 1)) / q));
     high = le_refl p.high;
-    from = rw e (max_le j.from (omega (arith, (div-lt_iff_lt-mul {x = s + (q - 1)} {y = k + 1} j.repetition_low).1 (omega (arith, j.repetition_low)))));
+    from = rw e (max-le j.from (omega (arith, (div-lt_iff_lt-mul {x = s + (q - 1)} {y = k + 1} j.repetition_low).1 (omega (arith, j.repetition_low)))));
     to = j.to;
     each = le_refl (p.each + t * q);
     behind = le_refl (p.behind + t * s);
@@ -191,7 +191,7 @@ first_fits g h = omega (arith, mul-le-mul h g.period_high, g.deadline_high)
 
 -- Neither is that of the fewest blocks of a piece.
 pub fewest_fits : {w : Work} {low c : ℕ} → Bounded w → c ≡ max low 1 → low ≤ max_ticks → w.deadline + c * w.period < 2 ^ 64
-fewest_fits {low = low} g e h = first_fits g (rw e (max_le (omega arith) (omega arith)))
+fewest_fits {low = low} g e h = first_fits g (rw e (max-le (omega arith) (omega arith)))
 
 -- What is the same from `low` to `high` blocks due is the same in the lengths that have so many.
 pub level_span : (w : Work) {low high asks from to : ℕ} → Level w low high asks → First w.period w.deadline low from

@@ -3,12 +3,8 @@ use native.Mathlib.Omega.{arith}
 use Prim.Native.Nat.{◌-◌, ◌^◌}
 use lib.Bits.{and_le_l}
 use Rattle.sets.proofs.Bits.{has_minus}
-use Rattle.sets.proofs.minus.Statement.{statement}
-use Rattle.sets.proofs.minus.Tie as tie
+use Rattle.sets.proofs.minus.Goals as goal
 
-returns : tie.Need-returns
+pub returns : goal.returns
 returns c =
     (λ v. has_minus c.args.a c.args.b v (omega arith) (omega arith), and_le_l c.args.a (2 ^ 64 - 1 - c.args.b))
-
-pub minus-spec : {M : Type 1} → statement M
-minus-spec = tie.close (tie.spec returns)
