@@ -17,7 +17,7 @@ pub const LONGEST: u64 = 2048;
 
 // How long the cycle is, and how much of it the graphs of the short periods leave. Length 0: there is no table, and rest says whether
 // demand is worth finding without skips first.
-#[derive(Drop)]
+#[derive(Clone, Copy)]
 pub struct Cycle {
     pub length: u64,
     pub rest: u64,

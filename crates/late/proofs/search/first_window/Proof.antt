@@ -1,7 +1,7 @@
 -- `search::first_window` meets its contract. The loop's invariant: the greatest deadline so far is positive and within the bound.
 use borrow.Author.Rules.{rules}
 use Prim.Native.Nat.{◌-◌, ◌<◌, ◌≤◌}
-use native.Mathlib.Nat.{max_le, le-max_left, min-le_left}
+use native.Mathlib.Nat.{max-le, le-max_left, min-le_left}
 use native.Mathlib.Omega.{arith}
 use Rattle.units.specs.Bounds.{max_ticks}
 use Rattle.late.proofs.search.first_window.Statement.{statement}
@@ -21,7 +21,7 @@ loop-again c =
     let a = m.loop.most.n in
     let b = s.result.n in
     let low : b ≤ max_ticks = omega (arith, s.ensures, two.of2.ensures, min-le_left two.of2.result.n c.before.before.of3.result.n) in
-    (rw c.later.ensures (omega (arith, le-max_left a b, m.loop.invariant.0)), rw c.later.ensures (max_le {a = a} {b = b} m.loop.invariant.1 low), search rules)
+    (rw c.later.ensures (omega (arith, le-max_left a b, m.loop.invariant.0)), rw c.later.ensures (max-le {a = a} {b = b} m.loop.invariant.1 low), search rules)
 
 pub first-window-spec : {M : Type 1} → statement M
 first-window-spec =

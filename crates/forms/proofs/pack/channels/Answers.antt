@@ -1,0 +1,19 @@
+-- `pack::channels`: one channel after the other.
+use lib.ListN.{length-take, length-drop}
+use borrow.Author.Rules.{rules}
+use Prim.Native.Nat.{◌-◌, ◌*◌}
+use native.Mathlib.Omega.{arith}
+use Rattle.sheet.specs.Layout.{channel_part}
+use Rattle.sheet.proofs.Parts.{Parts, packs, sizes_bytes, sizes_numbers, parts_start, parts_turn, parts_end}
+use Rattle.sheet.specs.Fields.{bytes}
+use Rattle.forms.proofs.pack.channels.Goals as goal
+
+pub loop-k-preserved : goal.loop-k-preserved
+loop-k-preserved c =
+    parts_turn packs (sizes_numbers.channel_is 0) (sizes_bytes.channel_is 0) c.loop-k.invariant c.loop-k-test.true
+    c.channel.ensures (omega arith) (omega arith) (omega arith)
+
+pub returns : goal.returns
+returns c =
+    parts_end packs c.loop-k.invariant c.loop-k-test.false (8 * c.args.n) (omega arith)
+

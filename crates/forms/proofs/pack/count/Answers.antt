@@ -1,0 +1,31 @@
+-- `pack::count` meets its contract: the bytes of the graphs, added up graph by graph.
+use mathlib.Core.Path.{refl}
+use Prim.Native.Nat.{◌-◌}
+use native.Mathlib.Omega.{arith}
+use borrow.Author.Rules.{rules}
+use Rattle.sheet.proofs.Ranges.{next_stands, next_turn}
+use Rattle.sheet.specs.Layout.{in_numbers}
+use Rattle.sheet.specs.Forms.{graphs_bytes}
+use Rattle.forms.proofs.Writing.{made_bytes, Counting, counting_start, counting_turn, counting_end}
+use Rattle.forms.proofs.pack.count.Goals as goal
+
+pub stretch_bytes-sum-requires : goal.stretch_bytes-sum-requires
+stretch_bytes-sum-requires c =
+    next_stands c.loop-k.invariant.walk c.requires c.loop-k-test.true
+
+pub overflow_add-sum : goal.overflow_add-sum
+overflow_add-sum c =
+    omega (arith, counting_turn made_bytes c.loop-k.invariant c.requires c.loop-k-test.true c.stretch_bytes-sum.ensures refl, c.well-formed)
+
+pub stretch-at-requires : goal.stretch-at-requires
+stretch-at-requires c =
+    next_stands c.loop-k.invariant.walk c.requires c.loop-k-test.true
+
+pub overflow_add-at : goal.overflow_add-at
+overflow_add-at c =
+    omega (arith, next_turn c.loop-k.invariant.walk c.requires c.loop-k-test.true c.stretch-at.ensures)
+
+pub loop-k-preserved : goal.loop-k-preserved
+loop-k-preserved c =
+    counting_turn made_bytes c.loop-k.invariant c.requires c.loop-k-test.true c.stretch_bytes-sum.ensures c.stretch-at.ensures
+

@@ -1,0 +1,16 @@
+-- `pack::fixed`: four bytes and two numbers of four bytes.
+use borrow.Author.Rules.{rules}
+use lib.ListN.{length-set}
+use mathlib.Core.Path.{◌∙◌}
+use native.Mathlib.Omega.{arith}
+use Rattle.sheet.proofs.Parts.{fixed_packed}
+use Rattle.forms.proofs.pack.fixed.Goals as goal
+
+pub shape_of-out : goal.shape_of-out
+shape_of-out c =
+    c.four-2.auto.out ∙ c.four.auto.out ∙ simp length-set
+
+pub returns : goal.returns
+returns c =
+    fixed_packed c.args.l.now c.args.out.now c.requires.1 c.four.ensures c.four-2.ensures
+

@@ -1,0 +1,39 @@
+-- 01, answers 1 to 5 and 14: a sheet that passes has its graph count and its graphs written, if the list has room.
+use mathlib.Core.Path.{◌≡◌, refl, sym, ◌∙◌}
+use native.Mathlib.Omega.{arith}
+use lib.ListN.{length-set}
+use Rattle.sheet.specs.declared.Answer.TheVariants.{On}
+use Rattle.sheet.specs.Check.{check_sheet}
+use Rattle.sheet.proofs.Walk.{part_is_drop}
+use Rattle.sheet.proofs.Forms.{Sheet, sheet_on, unpacked_at_most}
+use Rattle.forms.proofs.Unpacking.{unpack_refused, unpack_count, unpack_room, unpack_behind, unpack_wrote, unpack_memory}
+use borrow.Author.Rules.{rules}
+use Rattle.forms.proofs.unpack.sheet.Goals as goal
+
+pub returns-in-No : goal.returns-in-No
+returns-in-No c =
+    (unpack_refused _ _ (sym c.sheet-checked.ensures ∙ c.in-No.is), refl)
+
+pub overflow_add-all : goal.overflow_add-all
+overflow_add-all c =
+    let on : check_sheet c.args.s.now ≡ On = sym c.sheet-checked.ensures ∙ c.in-On.is in
+    omega (arith, unpack_count _ on c.count-all.ensures, unpacked_at_most _ on)
+
+pub returns-then-list-all : goal.returns-then-list-all
+returns-then-list-all c =
+    let on : check_sheet c.args.s.now ≡ On = sym c.sheet-checked.ensures ∙ c.in-On.is in
+    (unpack_room _ on c.count-all.ensures _ c.if-list-all.true, refl)
+
+pub graphs-requires : goal.graphs-requires
+graphs-requires c =
+    let on : check_sheet c.args.s.now ≡ On = sym c.sheet-checked.ensures ∙ c.in-On.is in
+    let known : Sheet c.args.s.now = sheet_on _ on in
+    (rw (part_is_drop _ 4) (known c).rest.walk, unpack_behind _ (on c) c.count-all.ensures c.args.list.now c.if-list-all.false)
+
+pub returns : goal.returns
+returns c =
+    let on : check_sheet c.args.s.now ≡ On = sym c.sheet-checked.ensures ∙ c.in-On.is in
+    let o = on c in
+    let left = c.if-list-all.false in
+    (unpack_wrote _ o c.count-all.ensures _ left, unpack_memory _ o c.count-all.ensures _ left c.graphs.ensures)
+

@@ -1,0 +1,19 @@
+-- `unpack::times`: one worst-case time after the other.
+use borrow.Author.Rules.{rules}
+use lib.ListN.{length-take, length-drop}
+use Prim.Native.Nat.{◌-◌, ◌*◌}
+use native.Mathlib.Omega.{arith}
+use Rattle.sheet.proofs.Parts.{Parts, unpacks, sizes_bytes, sizes_numbers, parts_start, parts_turn, parts_end}
+use Rattle.sheet.specs.Fields.{numbers}
+use Rattle.sheet.specs.Layout.{actor_part}
+use Rattle.forms.proofs.unpack.times.Goals as goal
+
+pub loop-k-preserved : goal.loop-k-preserved
+loop-k-preserved c =
+    parts_turn unpacks sizes_bytes.actor_is sizes_numbers.actor_is c.loop-k.invariant c.loop-k-test.true
+    c.time.ensures (omega arith) (omega arith) (omega arith)
+
+pub returns : goal.returns
+returns c =
+    parts_end unpacks c.loop-k.invariant c.loop-k-test.false c.args.n (omega arith)
+

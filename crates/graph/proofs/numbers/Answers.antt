@@ -1,0 +1,215 @@
+-- `graph::numbers` meets its contract: what each test says of the graph, and what holds past it (01, answers 7 to 11).
+use mathlib.Core.Path.{◌≡◌, subst, ◌∙◌}
+use mathlib.Core.List.{List}
+use Prim.Native.Nat.{ℕ, ◌≤◌}
+use native.Mathlib.Omega.{arith}
+use lib.ListN.{length}
+use borrow.Author.Rules.{rules}
+use borrow.Author.Tests.{not-true, not-false}
+use Rattle.sets.proofs.Decided.{decided_yes, decided_no}
+use Rattle.sdf.specs.Graph.{Graph, Reached}
+use Rattle.sdf.specs.Order.{Lives}
+use Rattle.sdf.specs.Balance.{Once}
+use Rattle.trial.specs.Flat.{graph_of, vector}
+use Rattle.trial.specs.Knot.{Awaits}
+use Rattle.repeat.specs.Repetition.{Repeats, BalanceAnswer}
+use Rattle.repeat.specs.declared.repetition.Numbering.{Numbering}
+use Rattle.graph.proofs.numbers.Goals as goal
+
+pub balance-found-requires : goal.balance-found-requires
+balance-found-requires c =
+    let s = c.requires in
+    let d = c.draw-back in
+    ((s.0.0, d.ensures.0, c.unskipped-zero.ensures), (s.1.0.0, omega (arith, s.0.2, d.auto.1.1.1.1.1.0), s.1.0.2))
+
+pub returns-in-Unreached : goal.returns-in-Unreached
+returns-in-Unreached c =
+    let graph : Graph = let a = c.args in graph_of a.actors a.input a.output a.channels.now in
+    let repetition : List ℕ = c.balance-found.new.q in
+    let awaits : List ℕ = c.balance-found.new.awaits in
+    let Says : Numbering → Type 0 = λ r. BalanceAnswer graph r repetition awaits in
+    subst (Says c) c.in-Unreached.is c.balance-found.ensures
+
+pub returns-in-Unbalanced : goal.returns-in-Unbalanced
+returns-in-Unbalanced c =
+    let graph : Graph = let a = c.args in graph_of a.actors a.input a.output a.channels.now in
+    let repetition : List ℕ = c.balance-found.new.q in
+    let awaits : List ℕ = c.balance-found.new.awaits in
+    let Says : Numbering → Type 0 = λ r. BalanceAnswer graph r repetition awaits in
+    subst (Says c) c.in-Unbalanced.is c.balance-found.ensures
+
+pub offset_bounds-q-input : goal.offset_bounds-q-input
+offset_bounds-q-input c =
+    let d = c.requires.0.0 in omega (arith, d.sound.input, d.actors)
+
+pub bounds-q-input : goal.bounds-q-input
+bounds-q-input c =
+    let repetition : List ℕ = c.balance-found.new.q in
+    let room : c.args.actors ≤ length repetition = omega (arith, c.requires.1.0.0, c.balance-found.auto.q) in
+    omega (arith, c.requires.0.0.sound.input, room c)
+
+pub returns-then-q-input-ne1 : goal.returns-then-q-input-ne1
+returns-then-q-input-ne1 c =
+    let graph : Graph = let a = c.args in graph_of a.actors a.input a.output a.channels.now in
+    let repetition : List ℕ = c.balance-found.new.q in
+    let awaits : List ℕ = c.balance-found.new.awaits in
+    let Says : Numbering → Type 0 = λ r. BalanceAnswer graph r repetition awaits in
+    let repeats : Reached (graph c) × Repeats (graph c) (repetition c) × Awaits (graph c) (vector (repetition c)) (vector (awaits c)) = subst Says c.in-Found.is c.balance-found.ensures in
+    let p = repeats in (p.0, p.1, λ o. c.if-q-input-ne1.true o.input)
+
+pub offset_bounds-q-output : goal.offset_bounds-q-output
+offset_bounds-q-output c =
+    let d = c.requires.0.0 in omega (arith, d.sound.output, d.actors)
+
+pub bounds-q-output : goal.bounds-q-output
+bounds-q-output c =
+    let repetition : List ℕ = c.balance-found.new.q in
+    let room : c.args.actors ≤ length repetition = omega (arith, c.requires.1.0.0, c.balance-found.auto.q) in
+    omega (arith, c.requires.0.0.sound.output, room c)
+
+pub returns-then-q-output-ne1 : goal.returns-then-q-output-ne1
+returns-then-q-output-ne1 c =
+    let graph : Graph = let a = c.args in graph_of a.actors a.input a.output a.channels.now in
+    let repetition : List ℕ = c.balance-found.new.q in
+    let awaits : List ℕ = c.balance-found.new.awaits in
+    let Says : Numbering → Type 0 = λ r. BalanceAnswer graph r repetition awaits in
+    let repeats : Reached (graph c) × Repeats (graph c) (repetition c) × Awaits (graph c) (vector (repetition c)) (vector (awaits c)) = subst Says c.in-Found.is c.balance-found.ensures in
+    let p = repeats in (p.0, p.1, λ o. c.if-q-output-ne1.true o.output)
+
+pub lives-requires : goal.lives-requires
+lives-requires c =
+    let repetition : List ℕ = c.balance-found.new.q in
+    let room : c.args.actors ≤ length repetition = omega (arith, c.requires.1.0.0, c.balance-found.auto.q) in
+    let graph : Graph = let a = c.args in graph_of a.actors a.input a.output a.channels.now in
+    let awaits : List ℕ = c.balance-found.new.awaits in
+    let Says : Numbering → Type 0 = λ r. BalanceAnswer graph r repetition awaits in
+    let repeats : Reached (graph c) × Repeats (graph c) (repetition c) × Awaits (graph c) (vector (repetition c)) (vector (awaits c)) = subst Says c.in-Found.is c.balance-found.ensures in
+    let s = c.requires in
+    let p = repeats c in (
+      (s.0.0, p.1.repetition.balanced, p.2, omega (arith, s.1.0.2, c.balance-found.auto.awaits)),
+      (
+        (p.1.bound, room c),
+        (
+          (s.1.0.3, s.1.0.1, s.1.1.0.0, omega (arith, s.1.1.0.1, c.balance-found.auto.met), s.1.1.0.2),
+          s.1.1.1,
+        ),
+      ),
+    )
+
+pub shape_of-words-then-not-lives : goal.shape_of-words-then-not-lives
+shape_of-words-then-not-lives c =
+    let words-kept : length c.draw-back.new.words ≡ length c.args.words.now = c.draw-back.auto.words in
+    words-kept
+
+pub shape_of-between-then-not-lives : goal.shape_of-between-then-not-lives
+shape_of-between-then-not-lives c =
+    let between-kept : length c.draw-back.new.between ≡ length c.args.between.now = c.draw-back.auto.between in
+    between-kept
+
+pub shape_of-left-then-not-lives : goal.shape_of-left-then-not-lives
+shape_of-left-then-not-lives c =
+    let left-kept : length c.lives.new.left ≡ length c.args.left.now = c.lives.auto.left ∙ c.balance-found.auto.met in
+    left-kept
+
+pub returns-then-not-lives : goal.returns-then-not-lives
+returns-then-not-lives c =
+    let graph : Graph = let a = c.args in graph_of a.actors a.input a.output a.channels.now in
+    let repetition : List ℕ = c.balance-found.new.q in
+    let awaits : List ℕ = c.balance-found.new.awaits in
+    let Says : Numbering → Type 0 = λ r. BalanceAnswer graph r repetition awaits in
+    let repeats : Reached (graph c) × Repeats (graph c) (repetition c) × Awaits (graph c) (vector (repetition c)) (vector (awaits c)) = subst Says c.in-Found.is c.balance-found.ensures in
+    let once : Once (graph c) (vector (repetition c)) = record { input = c.if-q-input-ne1.false; output = c.if-q-output-ne1.false } in
+    let p = repeats c in
+    let r = c.lives in
+    (p.0, p.1, once c, decided_no _ r.result (not-true _ c.if-not-lives.true) r.ensures)
+
+pub at_rest-requires : goal.at_rest-requires
+at_rest-requires c =
+    (c.requires.0.0, c.draw-back.ensures.1)
+
+pub shape_of-q-then-not-at_rest : goal.shape_of-q-then-not-at_rest
+shape_of-q-then-not-at_rest c =
+    c.balance-found.auto.q
+
+pub shape_of-words-then-not-at_rest : goal.shape_of-words-then-not-at_rest
+shape_of-words-then-not-at_rest c =
+    let words-kept : length c.draw-back.new.words ≡ length c.args.words.now = c.draw-back.auto.words in
+    words-kept
+
+pub shape_of-between-then-not-at_rest : goal.shape_of-between-then-not-at_rest
+shape_of-between-then-not-at_rest c =
+    let between-kept : length c.draw-back.new.between ≡ length c.args.between.now = c.draw-back.auto.between in
+    between-kept
+
+pub shape_of-awaits-then-not-at_rest : goal.shape_of-awaits-then-not-at_rest
+shape_of-awaits-then-not-at_rest c =
+    c.balance-found.auto.awaits
+
+pub shape_of-left-then-not-at_rest : goal.shape_of-left-then-not-at_rest
+shape_of-left-then-not-at_rest c =
+    let left-kept : length c.lives.new.left ≡ length c.args.left.now = c.lives.auto.left ∙ c.balance-found.auto.met in
+    left-kept
+
+pub returns-then-not-at_rest : goal.returns-then-not-at_rest
+returns-then-not-at_rest c =
+    let graph : Graph = let a = c.args in graph_of a.actors a.input a.output a.channels.now in
+    let repetition : List ℕ = c.balance-found.new.q in
+    let awaits : List ℕ = c.balance-found.new.awaits in
+    let Says : Numbering → Type 0 = λ r. BalanceAnswer graph r repetition awaits in
+    let repeats : Reached (graph c) × Repeats (graph c) (repetition c) × Awaits (graph c) (vector (repetition c)) (vector (awaits c)) = subst Says c.in-Found.is c.balance-found.ensures in
+    let once : Once (graph c) (vector (repetition c)) = record { input = c.if-q-input-ne1.false; output = c.if-q-output-ne1.false } in
+    let lives : Lives (graph c) (vector (repetition c)) = let r = c.lives in decided_yes _ r.result (not-false _ c.if-not-lives.false) r.ensures in
+    let p = repeats c in
+    let r = c.at_rest in
+    (p.0, p.1, once c, lives, decided_no _ r.result (not-true _ c.if-not-at_rest.true) r.ensures)
+
+pub skips-requires : goal.skips-requires
+skips-requires c =
+    let repetition : List ℕ = c.balance-found.new.q in
+    let room : c.args.actors ≤ length repetition = omega (arith, c.requires.1.0.0, c.balance-found.auto.q) in
+    let graph : Graph = let a = c.args in graph_of a.actors a.input a.output a.channels.now in
+    let awaits : List ℕ = c.balance-found.new.awaits in
+    let Says : Numbering → Type 0 = λ r. BalanceAnswer graph r repetition awaits in
+    let repeats : Reached (graph c) × Repeats (graph c) (repetition c) × Awaits (graph c) (vector (repetition c)) (vector (awaits c)) = subst Says c.in-Found.is c.balance-found.ensures in
+    let s = c.requires in
+    let p = repeats c in (
+      (s.0.0, p.0, room c, omega (arith, s.1.0.1, c.lives.auto.share), p.1),
+      (c.draw-back.ensures.0, c.unskipped-zero.ensures, omega (arith, s.1.1.1.0, c.lives.auto.into)),
+    )
+
+pub shape_of-q : goal.shape_of-q
+shape_of-q c =
+    c.balance-found.auto.q
+
+pub shape_of-words : goal.shape_of-words
+shape_of-words c =
+    let words-kept : length c.draw-back.new.words ≡ length c.args.words.now = c.draw-back.auto.words in
+    words-kept
+
+pub shape_of-between : goal.shape_of-between
+shape_of-between c =
+    let between-kept : length c.draw-back.new.between ≡ length c.args.between.now = c.draw-back.auto.between in
+    between-kept
+
+pub shape_of-awaits : goal.shape_of-awaits
+shape_of-awaits c =
+    c.balance-found.auto.awaits
+
+pub shape_of-left : goal.shape_of-left
+shape_of-left c =
+    let left-kept : length c.lives.new.left ≡ length c.args.left.now = c.lives.auto.left ∙ c.balance-found.auto.met in
+    left-kept
+
+pub returns : goal.returns
+returns c =
+    let graph : Graph = let a = c.args in graph_of a.actors a.input a.output a.channels.now in
+    let repetition : List ℕ = c.balance-found.new.q in
+    let awaits : List ℕ = c.balance-found.new.awaits in
+    let Says : Numbering → Type 0 = λ r. BalanceAnswer graph r repetition awaits in
+    let repeats : Reached (graph c) × Repeats (graph c) (repetition c) × Awaits (graph c) (vector (repetition c)) (vector (awaits c)) = subst Says c.in-Found.is c.balance-found.ensures in
+    let once : Once (graph c) (vector (repetition c)) = record { input = c.if-q-input-ne1.false; output = c.if-q-output-ne1.false } in
+    let lives : Lives (graph c) (vector (repetition c)) = let r = c.lives in decided_yes _ r.result (not-false _ c.if-not-lives.false) r.ensures in
+    let p = repeats c in
+    let r = c.at_rest in
+    (p.0, p.1, once c, lives, decided_yes _ r.result (not-false _ c.if-not-at_rest.false) r.ensures, c.skips.ensures)
+

@@ -1,0 +1,19 @@
+-- `graph::skip::skips` meets its contract: with each turn an entry falls, or fewer actors are left to be looked at.
+use mathlib.Core.Path.{◌≡◌, refl, ◌∙◌}
+use Prim.Native.Nat.{◌+◌, ◌*◌, ◌^◌}
+use native.Mathlib.Omega.{arith}
+use lib.ListN.{length}
+use borrow.Author.Rules.{rules}
+use Rattle.sdf.specs.Graph.{Graph}
+use Rattle.sdf.specs.Sum.{sum_to}
+use Rattle.sets.proofs.Decided.{decided_yes}
+use Rattle.trial.specs.Flat.{graph_of, vector}
+use Rattle.graph.specs.Skip.{Falling}
+use Rattle.graph.proofs.Lowering.{falling_start, watched_start, zero_skips, Settling, Looks, settling_start, settling_turn, settling_less, settling_end}
+use Rattle.graph.proofs.skip.skips.Given as goal
+
+abbrev pub invariant-loop-todo : goal.invariant-loop-todo
+invariant-loop-todo l = (length l.s ≡ length l.initial.s) × Settling (graph_of l.actors l.input l.output l.channels) l.zero l.todo l.s
+
+abbrev pub decreases-loop-todo : goal.decreases-loop-todo
+decreases-loop-todo l = sum_to (vector l.s) l.actors * 2 ^ 64 + l.todo

@@ -1,0 +1,19 @@
+-- `divisor` finds a number that divides both. The invariant: what divides the two numbers at hand divides a and b.
+use native.Mathlib.Nat.{mod-lt}
+use native.Mathlib.Omega.{arith}
+use borrow.Author.Rules.{rules}
+use Rattle.knot.proofs.Keeping.{Dividing, dividing_start, dividing_turn, dividing_end}
+use Rattle.knot.proofs.divisor.Goals as goal
+
+pub loop-y-smaller : goal.loop-y-smaller
+loop-y-smaller c =
+    mod-lt c.loop-y.x (omega arith)
+
+pub loop-y-preserved : goal.loop-y-preserved
+loop-y-preserved c =
+    dividing_turn c.loop-y.invariant (omega arith)
+
+pub returns : goal.returns
+returns c =
+    dividing_end c.loop-y.invariant (omega arith)
+

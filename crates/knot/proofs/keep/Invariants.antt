@@ -1,0 +1,20 @@
+-- `keep` copies the channels within the core. The invariant: of the channels passed, all of those are copied and no others.
+use mathlib.Core.Path.{◌≡◌, refl, ◌∙◌, ap}
+use mathlib.Core.Logic.{⊎_elim}
+use mathlib.Core.Bool.{true}
+use Prim.Native.Nat.{ℕ, ◌-◌, ◌/◌, ◌≤◌}
+use native.Mathlib.Omega.{arith}
+use lib.ListN.{length}
+use borrow.Author.Rules.{rules}
+use Rattle.sets.specs.Sets.{has}
+use Rattle.sets.proofs.Decided.{decided_yes, decided_no}
+use Rattle.trial.specs.Flat.{graph_of, vector}
+use Rattle.trial.specs.Knot.{waits}
+use Rattle.knot.proofs.Keeping.{Keeping, keeping_start, keeping_skip, keeping_turn, keeping_end}
+use Rattle.knot.proofs.keep.Given as goal
+
+abbrev pub invariant-loop-c : goal.invariant-loop-c
+invariant-loop-c l = (l.c ≤ l.m) × Keeping (graph_of l.actors l.input l.output l.channels) (vector l.q) l.core l.c l.n l.kept × (length l.kept ≡ length l.initial.kept)
+
+abbrev pub decreases-loop-c : goal.decreases-loop-c
+decreases-loop-c l = l.m - l.c

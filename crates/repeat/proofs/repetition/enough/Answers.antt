@@ -1,0 +1,15 @@
+-- `enough` gives what one firing takes on a channel from an actor to itself, and what the tail puts on any other.
+use mathlib.Core.Path.{◌∙◌}
+use Rattle.trial.specs.Read.{seen}
+use Rattle.repeat.proofs.Growth.{enough_self, enough_other}
+use borrow.Author.Rules.{rules}
+use Rattle.repeat.proofs.repetition.enough.Goals as goal
+
+pub returns-then-e : goal.returns-then-e
+returns-then-e c =
+    λ q e. c.count.ensures ∙ enough_self (seen c.args.e) q c.if-e.true
+
+pub returns : goal.returns
+returns c =
+    λ q e. e ∙ enough_other (seen c.args.e) q c.if-e.false
+

@@ -1,0 +1,12 @@
+-- `factor` gives the least factor: the loop goes up from 1 and keeps what k times the tokens leave.
+use Prim.Native.Nat.{◌-◌}
+use native.Mathlib.Omega.{arith}
+use Rattle.repeat.proofs.Growth.{Factoring, factoring_start, factoring_turn, factoring_below, factoring_end}
+use borrow.Author.Rules.{rules}
+use Rattle.repeat.proofs.repetition.factor.Given as goal
+
+abbrev pub invariant-loop-rest : goal.invariant-loop-rest
+invariant-loop-rest l = Factoring l.m l.c l.k l.rest
+
+abbrev pub decreases-loop-rest : goal.decreases-loop-rest
+decreases-loop-rest l = l.c - l.k

@@ -1,0 +1,34 @@
+-- `list::listing` meets its contract.
+use borrow.Author.Rules.{rules}
+use native.Mathlib.Omega.{arith}
+use mathlib.Core.Path.{refl}
+use Rattle.ready.specs.Lines.{refused, ready}
+use Rattle.shambrukit.proofs.Prepares.{ReadyHeld, refused_lines, ready_held}
+use Rattle.shambrukit.proofs.list.listing.Goals as goal
+
+pub bounds-l-0 : goal.bounds-l-0
+bounds-l-0 c =
+    let held : ReadyHeld c.args.l.now c.list-prepared.new.heads c.list-prepared.new.rows c.in-Ready.field-0.n = ready_held _ _ _ c.list-prepared.ensures c.in-Ready.is (search rules) (search rules) in
+    held.count_there
+
+pub overflow_cast-l : goal.overflow_cast-l
+overflow_cast-l c =
+    omega (arith, c.shared_slice_known-in-Ready-1.given 0)
+
+pub listing_of-requires : goal.listing_of-requires
+listing_of-requires c =
+    let held : ReadyHeld c.args.l.now c.list-prepared.new.heads c.list-prepared.new.rows c.in-Ready.field-0.n = ready_held _ _ _ c.list-prepared.ensures c.in-Ready.is (search rules) (search rules) in
+    let h = held in (h.js, h.stand)
+
+pub returns-in-Refused : goal.returns-in-Refused
+returns-in-Refused c =
+    (refused _, refused_lines _ _ _ c.list-prepared.ensures c.in-Refused.is, refl, refl)
+
+pub returns-in-Ready : goal.returns-in-Ready
+returns-in-Ready c =
+    let held : ReadyHeld c.args.l.now c.list-prepared.new.heads c.list-prepared.new.rows c.in-Ready.field-0.n = ready_held _ _ _ c.list-prepared.ensures c.in-Ready.is (search rules) (search rules) in
+    let h = held in
+    let F = c.in-Ready.field-0.n in
+    let (answer, memory) = c.listing_of.ensures h.js F h.stand in
+    (ready h.js F, h.lines, answer, memory)
+

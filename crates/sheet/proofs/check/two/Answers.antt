@@ -1,0 +1,18 @@
+-- `two`: a field of two bytes.
+use native.Mathlib.Omega.{arith}
+use Prim.Native.Nat.{◌+◌}
+use borrow.Author.Rules.{rules}
+use Rattle.sheet.proofs.Fields.{big_endian_two}
+use Rattle.sheet.proofs.check.two.Goals as goal
+
+pub overflow_add-result-2 : goal.overflow_add-result-2
+overflow_add-result-2 c =
+    omega (arith, c.shared_slice_known-1.given c.args.at, c.shared_slice_known-2-1.given (c.args.at + 1))
+
+pub returns : goal.returns
+returns c =
+    (
+  big_endian_two c.args.s.now c.args.at,
+  omega (arith, c.shared_slice_known-1.given c.args.at, c.shared_slice_known-2-1.given (c.args.at + 1)),
+)
+

@@ -1,0 +1,20 @@
+-- `range::channels`: one channel after the other.
+use borrow.Author.Rules.{rules}
+use Prim.Native.Nat.{◌-◌, ◌*◌}
+use lib.ListN.{length-take, length-drop}
+use native.Mathlib.Omega.{arith}
+use borrow.Author.Tests.{not-true, not-false}
+use Rattle.sheet.proofs.Parts.{sizes_numbers}
+use Rattle.sheet.specs.Layout.{channel_part}
+use Rattle.sheet.proofs.Ranges.{Ranging, ranging_start, ranging_no, ranging_turn, ranging_end}
+use Rattle.sheet.proofs.range.channels.Goals as goal
+
+pub returns-then-not-channel : goal.returns-then-not-channel
+returns-then-not-channel c =
+    ranging_no c.loop-k.invariant c.loop-k-test.true c.channel.ensures (not-true _ c.if-not-channel.true)
+
+pub loop-k-preserved : goal.loop-k-preserved
+loop-k-preserved c =
+    ranging_turn c.loop-k.invariant c.loop-k-test.true c.channel.ensures
+    (not-false _ c.if-not-channel.false) (omega (arith, sizes_numbers.channel_is c.args.actors))
+

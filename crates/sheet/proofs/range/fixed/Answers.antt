@@ -1,0 +1,12 @@
+-- `range::fixed`: four numbers within their bounds; the counts are.
+use borrow.Author.Rules.{rules}
+use native.Mathlib.Omega.{arith}
+use Rattle.sheet.proofs.Walk.{sized_gives}
+use Rattle.sheet.proofs.Ranges.{fixed_range}
+use Rattle.sheet.proofs.range.fixed.Goals as goal
+
+pub returns : goal.returns
+returns c =
+    rw (c.within.ensures, c.within-2.ensures, c.within-3.ensures, c.within-4.ensures)
+    (fixed_range c.args.l.now c.requires.0)
+

@@ -1,0 +1,12 @@
+-- `range::stretch` meets its contract: the counts at the start of a graph say how many numbers it has.
+use native.Mathlib.Omega.{arith}
+use Rattle.sheet.specs.Check.{stretch}
+use Rattle.sheet.proofs.Walk.{sized_gives}
+use Rattle.sheet.proofs.Ranges.{stretch_numbers}
+use Rattle.sheet.proofs.range.stretch.Goals as goal
+
+pub returns : goal.returns
+unfolding stretch
+returns c =
+    c.numbers_of.ensures
+

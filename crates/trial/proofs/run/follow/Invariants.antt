@@ -1,0 +1,15 @@
+-- `follow` visits v and then along the hints. The invariant: w is an actor, and is visited next.
+use mathlib.Core.Path.{refl, ◌∙◌}
+use Prim.Native.Nat.{◌<◌}
+use native.Mathlib.Omega.{arith}
+use borrow.Author.Rules.{rules}
+use Rattle.trial.specs.Flat.{graph_of}
+use Rattle.trial.proofs.Toward.{Sized, sized_start, sized_again, run_visitable, Following, following_start, following_visit, following_again, following_underway, visited_fits, ahead, hint_less}
+use Rattle.trial.proofs.run.follow.Given as goal
+
+abbrev pub invariant-loop-w : goal.invariant-loop-w
+invariant-loop-w l = (l.w < l.actors) × Sized l.initial.tokens l.initial.left l.initial.ready l.initial.hints l.tokens l.left l.ready l.hints
+    × Following (graph_of l.actors l.input l.output l.channels) l.v l.w l.sum.n l.initial.tokens l.initial.left l.initial.ready l.tokens l.left l.ready
+
+abbrev pub decreases-loop-w : goal.decreases-loop-w
+decreases-loop-w l = ahead l.actors l.left l.hints
