@@ -14,7 +14,7 @@ use Rattle.graph.proofs.balance.Goals as goal
 pub returns-then-not-to_output : goal.returns-then-not-to_output
 returns-then-not-to_output c =
     let drawn : Graph = let a = c.args in graph_of a.actors a.input a.output a.channels.now in
-    λ h. decided_no (AllTo (drawn c) (drawn c).output) c.to_output.result (not-true _ c.if-not-to_output.true) c.to_output.ensures ((reached_both (drawn c)).0 h).1
+    λ h. decided_no (AllTo (drawn c) (drawn c).output) c.to_output.result c.if-not-to_output.true c.to_output.ensures ((reached_both (drawn c)).0 h).1
 
 pub returns-in-Found : goal.returns-in-Found
 returns-in-Found c =
@@ -22,7 +22,7 @@ returns-in-Found c =
     let graph : Graph = drawn in
     let numbers : List ℕ = c.repetition-found.new.q in
     let awaits : List ℕ = c.repetition-found.new.awaits in
-    let all-to : AllTo graph graph.output = decided_yes (AllTo graph graph.output) c.to_output.result (not-false _ c.if-not-to_output.false) c.to_output.ensures in
+    let all-to : AllTo graph graph.output = decided_yes (AllTo graph graph.output) c.to_output.result c.if-not-to_output.false c.to_output.ensures in
     answer_found (graph c) c.repetition-found.result (numbers c) (awaits c) c.repetition-found.ensures c.in-Found.is (all-to c)
 
 pub returns-in-Unreached : goal.returns-in-Unreached
@@ -38,7 +38,7 @@ returns-then-not-from_input c =
     let drawn : Graph = let a = c.args in graph_of a.actors a.input a.output a.channels.now in
     let graph : Graph = drawn in
     let g = graph c in
-    λ h. decided_no (AllFrom g g.input) c.from_input.result (not-true _ c.if-not-from_input.true) c.from_input.ensures ((reached_both g).0 h).0
+    λ h. decided_no (AllFrom g g.input) c.from_input.result c.if-not-from_input.true c.from_input.ensures ((reached_both g).0 h).0
 
 pub returns : goal.returns
 returns c =
@@ -46,7 +46,7 @@ returns c =
     let graph : Graph = drawn in
     let numbers : List ℕ = c.repetition-found.new.q in
     let awaits : List ℕ = c.repetition-found.new.awaits in
-    let all-to : AllTo graph graph.output = decided_yes (AllTo graph graph.output) c.to_output.result (not-false _ c.if-not-to_output.false) c.to_output.ensures in
-    let from = decided_yes (AllFrom (graph c) (graph c).input) c.from_input.result (not-false _ c.if-not-from_input.false) c.from_input.ensures in
+    let all-to : AllTo graph graph.output = decided_yes (AllTo graph graph.output) c.to_output.result c.if-not-to_output.false c.to_output.ensures in
+    let from = decided_yes (AllFrom (graph c) (graph c).input) c.from_input.result c.if-not-from_input.false c.from_input.ensures in
     answer_unbalanced (graph c) c.repetition-found.result (numbers c) (awaits c) c.repetition-found.ensures c.in-Unbalanced.is from (all-to c)
 

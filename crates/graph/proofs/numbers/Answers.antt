@@ -40,12 +40,12 @@ returns-in-Unbalanced c =
 
 pub offset_bounds-q-input : goal.offset_bounds-q-input
 offset_bounds-q-input c =
-    let d = c.requires.0.0 in omega (arith, d.sound.input, d.actors)
+    let d = c.requires.drawn.0 in omega (arith, d.sound.input, d.actors)
 
 pub bounds-q-input : goal.bounds-q-input
 bounds-q-input c =
     let repetition : List ℕ = c.balance-found.new.q in
-    let room : c.args.actors ≤ length repetition = omega (arith, c.requires.1.0.0, c.balance-found.auto.q) in
+    let room : c.args.actors ≤ length repetition = omega (arith, c.requires.actors_in_bounds.0.0, c.balance-found.auto.q) in
     omega (arith, c.requires.0.0.sound.input, room c)
 
 pub returns-then-q-input-ne1 : goal.returns-then-q-input-ne1
@@ -59,12 +59,12 @@ returns-then-q-input-ne1 c =
 
 pub offset_bounds-q-output : goal.offset_bounds-q-output
 offset_bounds-q-output c =
-    let d = c.requires.0.0 in omega (arith, d.sound.output, d.actors)
+    let d = c.requires.drawn.0 in omega (arith, d.sound.output, d.actors)
 
 pub bounds-q-output : goal.bounds-q-output
 bounds-q-output c =
     let repetition : List ℕ = c.balance-found.new.q in
-    let room : c.args.actors ≤ length repetition = omega (arith, c.requires.1.0.0, c.balance-found.auto.q) in
+    let room : c.args.actors ≤ length repetition = omega (arith, c.requires.actors_in_bounds.0.0, c.balance-found.auto.q) in
     omega (arith, c.requires.0.0.sound.output, room c)
 
 pub returns-then-q-output-ne1 : goal.returns-then-q-output-ne1
@@ -79,7 +79,7 @@ returns-then-q-output-ne1 c =
 pub lives-requires : goal.lives-requires
 lives-requires c =
     let repetition : List ℕ = c.balance-found.new.q in
-    let room : c.args.actors ≤ length repetition = omega (arith, c.requires.1.0.0, c.balance-found.auto.q) in
+    let room : c.args.actors ≤ length repetition = omega (arith, c.requires.actors_in_bounds.0.0, c.balance-found.auto.q) in
     let graph : Graph = let a = c.args in graph_of a.actors a.input a.output a.channels.now in
     let awaits : List ℕ = c.balance-found.new.awaits in
     let Says : Numbering → Type 0 = λ r. BalanceAnswer graph r repetition awaits in
@@ -121,7 +121,7 @@ returns-then-not-lives c =
     let once : Once (graph c) (vector (repetition c)) = record { input = c.if-q-input-ne1.false; output = c.if-q-output-ne1.false } in
     let p = repeats c in
     let r = c.lives in
-    (p.0, p.1, once c, decided_no _ r.result (not-true _ c.if-not-lives.true) r.ensures)
+    (p.0, p.1, once c, decided_no _ r.result c.if-not-lives.true r.ensures)
 
 pub at_rest-requires : goal.at_rest-requires
 at_rest-requires c =
@@ -158,24 +158,24 @@ returns-then-not-at_rest c =
     let Says : Numbering → Type 0 = λ r. BalanceAnswer graph r repetition awaits in
     let repeats : Reached (graph c) × Repeats (graph c) (repetition c) × Awaits (graph c) (vector (repetition c)) (vector (awaits c)) = subst Says c.in-Found.is c.balance-found.ensures in
     let once : Once (graph c) (vector (repetition c)) = record { input = c.if-q-input-ne1.false; output = c.if-q-output-ne1.false } in
-    let lives : Lives (graph c) (vector (repetition c)) = let r = c.lives in decided_yes _ r.result (not-false _ c.if-not-lives.false) r.ensures in
+    let lives : Lives (graph c) (vector (repetition c)) = let r = c.lives in decided_yes _ r.result c.if-not-lives.false r.ensures in
     let p = repeats c in
     let r = c.at_rest in
-    (p.0, p.1, once c, lives, decided_no _ r.result (not-true _ c.if-not-at_rest.true) r.ensures)
+    (p.0, p.1, once c, lives, decided_no _ r.result c.if-not-at_rest.true r.ensures)
 
 pub skips-requires : goal.skips-requires
 skips-requires c =
     let repetition : List ℕ = c.balance-found.new.q in
-    let room : c.args.actors ≤ length repetition = omega (arith, c.requires.1.0.0, c.balance-found.auto.q) in
+    let room : c.args.actors ≤ length repetition = omega (arith, c.requires.actors_in_bounds.0.0, c.balance-found.auto.q) in
     let graph : Graph = let a = c.args in graph_of a.actors a.input a.output a.channels.now in
     let awaits : List ℕ = c.balance-found.new.awaits in
     let Says : Numbering → Type 0 = λ r. BalanceAnswer graph r repetition awaits in
     let repeats : Reached (graph c) × Repeats (graph c) (repetition c) × Awaits (graph c) (vector (repetition c)) (vector (awaits c)) = subst Says c.in-Found.is c.balance-found.ensures in
     let s = c.requires in
-    let p = repeats c in (
-      (s.0.0, p.0, room c, omega (arith, s.1.0.1, c.lives.auto.share), p.1),
-      (c.draw-back.ensures.0, c.unskipped-zero.ensures, omega (arith, s.1.1.1.0, c.lives.auto.into)),
-    )
+    let p = repeats c in record {
+      drawn = (s.0.0, p.0, room c, omega (arith, s.1.0.1, c.lives.auto.share), p.1);
+      words = (c.draw-back.ensures.0, c.unskipped-zero.ensures, omega (arith, s.1.1.1.0, c.lives.auto.into));
+    }
 
 pub shape_of-q : goal.shape_of-q
 shape_of-q c =
@@ -208,8 +208,100 @@ returns c =
     let Says : Numbering → Type 0 = λ r. BalanceAnswer graph r repetition awaits in
     let repeats : Reached (graph c) × Repeats (graph c) (repetition c) × Awaits (graph c) (vector (repetition c)) (vector (awaits c)) = subst Says c.in-Found.is c.balance-found.ensures in
     let once : Once (graph c) (vector (repetition c)) = record { input = c.if-q-input-ne1.false; output = c.if-q-output-ne1.false } in
-    let lives : Lives (graph c) (vector (repetition c)) = let r = c.lives in decided_yes _ r.result (not-false _ c.if-not-lives.false) r.ensures in
+    let lives : Lives (graph c) (vector (repetition c)) = let r = c.lives in decided_yes _ r.result c.if-not-lives.false r.ensures in
     let p = repeats c in
     let r = c.at_rest in
-    (p.0, p.1, once c, lives, decided_yes _ r.result (not-false _ c.if-not-at_rest.false) r.ensures, c.skips.ensures)
+    (p.0, p.1, once c, lives, decided_yes _ r.result c.if-not-at_rest.false r.ensures, c.skips.ensures)
+
+pub shape_of-q-then-not-lives : goal.shape_of-q-then-not-lives
+shape_of-q-then-not-lives c =
+    c.balance-found.auto.q
+
+pub shape_of-s-then-not-lives : goal.shape_of-s-then-not-lives
+shape_of-s-then-not-lives c =
+    c.lives.auto.share
+
+pub shape_of-awaits-then-not-lives : goal.shape_of-awaits-then-not-lives
+shape_of-awaits-then-not-lives c =
+    c.balance-found.auto.awaits
+
+pub shape_of-kept-then-not-lives : goal.shape_of-kept-then-not-lives
+shape_of-kept-then-not-lives c =
+    c.lives.auto.kept
+
+pub shape_of-tokens-then-not-lives : goal.shape_of-tokens-then-not-lives
+shape_of-tokens-then-not-lives c =
+    c.lives.auto.tokens
+
+pub shape_of-ready-then-not-lives : goal.shape_of-ready-then-not-lives
+shape_of-ready-then-not-lives c =
+    c.lives.auto.ready
+
+pub shape_of-into-then-not-lives : goal.shape_of-into-then-not-lives
+shape_of-into-then-not-lives c =
+    c.lives.auto.into
+
+pub shape_of-out-then-not-lives : goal.shape_of-out-then-not-lives
+shape_of-out-then-not-lives c =
+    c.lives.auto.out
+
+pub shape_of-hints-then-not-lives : goal.shape_of-hints-then-not-lives
+shape_of-hints-then-not-lives c =
+    c.lives.auto.hints
+
+pub shape_of-s-then-not-at_rest : goal.shape_of-s-then-not-at_rest
+shape_of-s-then-not-at_rest c =
+    c.lives.auto.share
+
+pub shape_of-kept-then-not-at_rest : goal.shape_of-kept-then-not-at_rest
+shape_of-kept-then-not-at_rest c =
+    c.lives.auto.kept
+
+pub shape_of-tokens-then-not-at_rest : goal.shape_of-tokens-then-not-at_rest
+shape_of-tokens-then-not-at_rest c =
+    c.lives.auto.tokens
+
+pub shape_of-ready-then-not-at_rest : goal.shape_of-ready-then-not-at_rest
+shape_of-ready-then-not-at_rest c =
+    c.lives.auto.ready
+
+pub shape_of-into-then-not-at_rest : goal.shape_of-into-then-not-at_rest
+shape_of-into-then-not-at_rest c =
+    c.lives.auto.into
+
+pub shape_of-out-then-not-at_rest : goal.shape_of-out-then-not-at_rest
+shape_of-out-then-not-at_rest c =
+    c.lives.auto.out
+
+pub shape_of-hints-then-not-at_rest : goal.shape_of-hints-then-not-at_rest
+shape_of-hints-then-not-at_rest c =
+    c.lives.auto.hints
+
+pub shape_of-s : goal.shape_of-s
+shape_of-s c =
+    c.skips.auto.s ∙ c.lives.auto.share
+
+pub shape_of-kept : goal.shape_of-kept
+shape_of-kept c =
+    c.lives.auto.kept
+
+pub shape_of-tokens : goal.shape_of-tokens
+shape_of-tokens c =
+    c.lives.auto.tokens
+
+pub shape_of-ready : goal.shape_of-ready
+shape_of-ready c =
+    c.lives.auto.ready
+
+pub shape_of-into : goal.shape_of-into
+shape_of-into c =
+    c.skips.auto.into ∙ c.lives.auto.into
+
+pub shape_of-out : goal.shape_of-out
+shape_of-out c =
+    c.lives.auto.out
+
+pub shape_of-hints : goal.shape_of-hints
+shape_of-hints c =
+    c.lives.auto.hints
 

@@ -17,3 +17,7 @@ pub returns : goal.returns
 returns c =
     dividing_end c.loop-y.invariant (omega arith)
 
+pub loop-y-init : goal.loop-y-init
+loop-y-init c =
+    dividing_start c.requires
+

@@ -16,7 +16,10 @@ loop-actors-init c =
 
 pub pass-rest-requires : goal.pass-rest-requires
 pass-rest-requires c =
-    (c.requires, c.loop-actors.invariant)
+    record {
+      drawn = c.requires;
+      done = c.loop-actors.invariant;
+    }
 
 pub returns-then-rest-eq0 : goal.returns-then-rest-eq0
 returns-then-rest-eq0 c =

@@ -12,27 +12,27 @@ use Rattle.knot.proofs.pass.Goals as goal
 
 pub loop-i-init : goal.loop-i-init
 loop-i-init c =
-    (c.requires.1.0, c.requires.1.1, le_refl c.args.left)
+    (c.requires.done.0, c.requires.done.1, le_refl c.args.left)
 
 pub offset_bounds-met-i : goal.offset_bounds-met-i
 offset_bounds-met-i c =
-    omega (arith, c.requires.0.0.actors)
+    omega (arith, c.requires.drawn.0.actors)
 
 pub bounds-met-i : goal.bounds-met-i
 bounds-met-i c =
-    omega (arith, c.requires.0.4, c.loop-i-test.true)
+    omega (arith, c.requires.drawn.4, c.loop-i-test.true)
 
 pub offset_bounds-awaits-v : goal.offset_bounds-awaits-v
 offset_bounds-awaits-v c =
-    omega (arith, c.requires.0.0.actors)
+    omega (arith, c.requires.drawn.0.actors)
 
 pub bounds-awaits-v : goal.bounds-awaits-v
 bounds-awaits-v c =
-    omega (arith, c.requires.0.3)
+    omega (arith, c.requires.drawn.3)
 
 pub release-rest-requires : goal.release-rest-requires
 release-rest-requires c =
-    omega (arith, c.requires.0.0.actors)
+    omega (arith, c.requires.drawn.0.actors)
 
 pub overflow_add-i : goal.overflow_add-i
 overflow_add-i c =
@@ -43,7 +43,7 @@ loop-i-preserved c =
     let inv = c.loop-i.invariant in
     ⊎_elim
     (λ w. let r = w.2.ensures in
-    rw w.3 (released_done c.requires.0.0.sound c.requires.0.1 c.requires.0.2 w.0.true inv.0 r, released_below r inv.1, le_trans r.fewer inv.2))
+    rw w.3 (released_done c.requires.drawn.0.sound c.requires.drawn.1 c.requires.drawn.2 w.0.true inv.0 r, released_below r inv.1, le_trans r.fewer inv.2))
     (λ w. rw w.1 inv)
     c.if-v-actors.branch
 

@@ -23,6 +23,10 @@ overflow_mul-share c =
     let n = vector c.args.q.now v in
     omega (arith, share_fits n c.args.core v, ap (λ (x : ℕ). n * x) c.has.ensures, c.shared_slice_known-in-loop-v-1.given v)
 
+pub nonzero_div-share : goal.nonzero_div-share
+nonzero_div-share c =
+    omega (arith, c.unit-d.ensures.positive)
+
 pub loop-v-preserved : goal.loop-v-preserved
 loop-v-preserved c =
     let d = c.unit-d.result in

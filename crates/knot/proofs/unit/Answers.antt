@@ -46,3 +46,7 @@ pub returns : goal.returns
 returns c =
     uniting_end _ c.loop-todo.invariant (omega arith) (omega arith)
 
+pub loop-todo-init : goal.loop-todo-init
+loop-todo-init c =
+    uniting_start _ _ _
+

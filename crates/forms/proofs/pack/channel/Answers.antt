@@ -18,3 +18,15 @@ pub returns : goal.returns
 returns c =
     channel_packed c.args.l.now c.args.out.now c.requires.1 c.two.ensures c.two-2.ensures c.two-3.ensures
 
+pub bounds-out-1 : goal.bounds-out-1
+bounds-out-1 c =
+    simp length-set (omega arith)
+
+pub two-requires : goal.two-requires
+two-requires c =
+    simp length-set (omega arith)
+
+pub two-requires-2 : goal.two-requires-2
+two-requires-2 c =
+    omega (arith, simp length-set at c.two.auto.out)
+

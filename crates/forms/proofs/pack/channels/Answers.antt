@@ -17,3 +17,15 @@ pub returns : goal.returns
 returns c =
     parts_end packs c.loop-k.invariant c.loop-k-test.false (8 * c.args.n) (omega arith)
 
+pub loop-k-init : goal.loop-k-init
+loop-k-init c =
+    parts_start _ _ _
+
+pub channel-requires : goal.channel-requires
+channel-requires c =
+    (simp (length-take, length-drop) (omega arith), simp (length-take, length-drop) (omega arith))
+
+pub shape_of-out : goal.shape_of-out
+shape_of-out c =
+    c.loop-k.invariant.auto
+

@@ -29,3 +29,11 @@ pub loop-k-preserved : goal.loop-k-preserved
 loop-k-preserved c =
     counting_turn made_bytes c.loop-k.invariant c.requires c.loop-k-test.true c.stretch_bytes-sum.ensures c.stretch-at.ensures
 
+pub loop-k-init : goal.loop-k-init
+loop-k-init c =
+    counting_start
+
+pub returns : goal.returns
+returns c =
+    counting_end made_bytes c.loop-k.invariant c.loop-k-test.false
+

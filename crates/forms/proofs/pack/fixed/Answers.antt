@@ -14,3 +14,23 @@ pub returns : goal.returns
 returns c =
     fixed_packed c.args.l.now c.args.out.now c.requires.1 c.four.ensures c.four-2.ensures
 
+pub bounds-out-1 : goal.bounds-out-1
+bounds-out-1 c =
+    simp length-set (omega arith)
+
+pub bounds-out-2 : goal.bounds-out-2
+bounds-out-2 c =
+    simp length-set (omega arith)
+
+pub bounds-out-3 : goal.bounds-out-3
+bounds-out-3 c =
+    simp length-set (omega arith)
+
+pub four-requires : goal.four-requires
+four-requires c =
+    simp length-set (omega arith)
+
+pub four-requires-2 : goal.four-requires-2
+four-requires-2 c =
+    omega (arith, simp length-set at c.four.auto.out)
+

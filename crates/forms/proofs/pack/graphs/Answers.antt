@@ -33,3 +33,15 @@ pub loop-k-preserved : goal.loop-k-preserved
 loop-k-preserved c =
     writing_turn made_bytes c.loop-k.invariant c.requires.0 c.loop-k-test.true c.graph.ensures c.stretch_bytes-to.ensures c.stretch-at.ensures
 
+pub loop-k-init : goal.loop-k-init
+loop-k-init c =
+    writing_start c.requires.1
+
+pub shape_of-out : goal.shape_of-out
+shape_of-out c =
+    c.loop-k.invariant.auto
+
+pub returns : goal.returns
+returns c =
+    writing_end made_bytes c.loop-k.invariant c.loop-k-test.false
+

@@ -9,3 +9,23 @@ pub returns : goal.returns
 returns c =
     channel_stored c.args.s.now c.args.list.now c.requires.1 c.two.ensures.0 c.two-2.ensures.0 c.two-3.ensures.0
 
+pub overflow_cast-list : goal.overflow_cast-list
+overflow_cast-list c =
+    omega (arith, c.shared_slice_known-2-1.given 0)
+
+pub overflow_cast-list-2 : goal.overflow_cast-list-2
+overflow_cast-list-2 c =
+    omega (arith, c.shared_slice_known-3-1.given 1)
+
+pub bounds-list-1 : goal.bounds-list-1
+bounds-list-1 c =
+    simp length-set (omega arith)
+
+pub bounds-list-2 : goal.bounds-list-2
+bounds-list-2 c =
+    simp length-set (omega arith)
+
+pub bounds-list-3 : goal.bounds-list-3
+bounds-list-3 c =
+    simp length-set (omega arith)
+

@@ -12,7 +12,10 @@ use Rattle.forms.proofs.unpack.sheet.Goals as goal
 
 pub returns-in-No : goal.returns-in-No
 returns-in-No c =
-    (unpack_refused _ _ (sym c.sheet-checked.ensures ∙ c.in-No.is), refl)
+    record {
+      answer = unpack_refused _ _ (sym c.sheet-checked.ensures ∙ c.in-No.is);
+      memory = refl;
+    }
 
 pub overflow_add-all : goal.overflow_add-all
 overflow_add-all c =
@@ -36,4 +39,64 @@ returns c =
     let o = on c in
     let left = c.if-list-all.false in
     (unpack_wrote _ o c.count-all.ensures _ left, unpack_memory _ o c.count-all.ensures _ left c.graphs.ensures)
+
+pub bounds-s-3 : goal.bounds-s-3
+bounds-s-3 c =
+    let on : check_sheet c.args.s.now ≡ On = sym c.sheet-checked.ensures ∙ c.in-On.is in
+    let known : Sheet c.args.s.now = sheet_on _ on in
+    omega (arith, known)
+
+pub overflow_cast-n : goal.overflow_cast-n
+overflow_cast-n c =
+    let on : check_sheet c.args.s.now ≡ On = sym c.sheet-checked.ensures ∙ c.in-On.is in
+    let known : Sheet c.args.s.now = sheet_on _ on in
+    omega (arith, known)
+
+pub slice_bounds-count-count : goal.slice_bounds-count-count
+slice_bounds-count-count c =
+    let on : check_sheet c.args.s.now ≡ On = sym c.sheet-checked.ensures ∙ c.in-On.is in
+    let known : Sheet c.args.s.now = sheet_on _ on in
+    omega (arith, known)
+
+pub slice_bounds-count-start : goal.slice_bounds-count-start
+slice_bounds-count-start c =
+    let on : check_sheet c.args.s.now ≡ On = sym c.sheet-checked.ensures ∙ c.in-On.is in
+    let known : Sheet c.args.s.now = sheet_on _ on in
+    omega (arith, known)
+
+pub count-all-requires : goal.count-all-requires
+count-all-requires c =
+    let on : check_sheet c.args.s.now ≡ On = sym c.sheet-checked.ensures ∙ c.in-On.is in
+    let known : Sheet c.args.s.now = sheet_on _ on in
+    rw (part_is_drop _ 4) known.rest.walk
+
+pub overflow_cast-list : goal.overflow_cast-list
+overflow_cast-list c =
+    let on : check_sheet c.args.s.now ≡ On = sym c.sheet-checked.ensures ∙ c.in-On.is in
+    let known : Sheet c.args.s.now = sheet_on _ on in
+    omega (arith, known)
+
+pub slice_bounds-graphs-count : goal.slice_bounds-graphs-count
+slice_bounds-graphs-count c =
+    let on : check_sheet c.args.s.now ≡ On = sym c.sheet-checked.ensures ∙ c.in-On.is in
+    let known : Sheet c.args.s.now = sheet_on _ on in
+    omega (arith, known)
+
+pub slice_bounds-graphs-start : goal.slice_bounds-graphs-start
+slice_bounds-graphs-start c =
+    let on : check_sheet c.args.s.now ≡ On = sym c.sheet-checked.ensures ∙ c.in-On.is in
+    let known : Sheet c.args.s.now = sheet_on _ on in
+    omega (arith, known)
+
+pub slice_bounds-graphs-count-2 : goal.slice_bounds-graphs-count-2
+slice_bounds-graphs-count-2 c =
+    simp length-set (search rules)
+
+pub slice_bounds-graphs-start-2 : goal.slice_bounds-graphs-start-2
+slice_bounds-graphs-start-2 c =
+    simp length-set (search rules)
+
+pub shape_of-list : goal.shape_of-list
+shape_of-list c =
+    c.list-1.given.1 ∙ simp length-set
 

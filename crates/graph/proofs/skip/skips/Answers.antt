@@ -19,7 +19,7 @@ start-requires c =
 
 pub covers-requires : goal.covers-requires
 covers-requires c =
-    let d = c.requires.0.0 in (omega (arith, d.sound.output), d.actors)
+    let d = c.requires.drawn.0 in (omega (arith, d.sound.output), d.actors)
 
 pub shape_of-s-then-covers : goal.shape_of-s-then-covers
 shape_of-s-then-covers c =
@@ -33,7 +33,7 @@ returns-then-covers c =
 
 pub link-requires : goal.link-requires
 link-requires c =
-    (search rules, c.requires.0.0.sound.head, c.requires.1.2)
+    (search rules, c.requires.drawn.0.sound.head, c.requires.words.2)
 
 pub loop-todo-init : goal.loop-todo-init
 loop-todo-init c =
@@ -45,10 +45,10 @@ loop-todo-init c =
 pub lower-fell-requires : goal.lower-fell-requires
 lower-fell-requires c =
     let size : length c.loop-todo.s ≡ length c.args.s.now = c.loop-todo.invariant.0 ∙ c.start.auto.s in
-    let p = c.requires in (
-      (p.0.0, c.link.ensures, c.loop-todo.invariant.1.actors _ c.greatest-h.ensures.1, omega (arith, size c, p.0.3)),
-      c.loop-todo.invariant.1.falling,
-    )
+    let p = c.requires in record {
+      drawn = (p.0.0, c.link.ensures, c.loop-todo.invariant.1.actors _ c.greatest-h.ensures.1, omega (arith, size c, p.0.3));
+      falling = c.loop-todo.invariant.1.falling;
+    }
 
 pub without-requires : goal.without-requires
 without-requires c =

@@ -7,7 +7,7 @@ use Rattle.ready.proofs.prepare.head.Goals as goal
 
 pub bounds-l-4 : goal.bounds-l-4
 bounds-l-4 c =
-    omega (arith, there _ c.requires.0)
+    omega (arith, there _ c.requires.l_value)
 
 pub overflow_cast-heads : goal.overflow_cast-heads
 overflow_cast-heads c =
@@ -15,7 +15,7 @@ overflow_cast-heads c =
 
 pub bounds-l-5 : goal.bounds-l-5
 bounds-l-5 c =
-    omega (arith, there _ c.requires.0)
+    omega (arith, there _ c.requires.l_value)
 
 pub overflow_cast-heads-2 : goal.overflow_cast-heads-2
 overflow_cast-heads-2 c =
@@ -27,7 +27,7 @@ bounds-heads-h-2 c =
 
 pub bounds-l-0 : goal.bounds-l-0
 bounds-l-0 c =
-    omega (arith, there _ c.requires.0)
+    omega (arith, there _ c.requires.l_value)
 
 pub overflow_cast-heads-3 : goal.overflow_cast-heads-3
 overflow_cast-heads-3 c =

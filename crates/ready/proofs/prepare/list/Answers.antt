@@ -35,6 +35,12 @@ slice_bounds-walk-count c =
     let listed : Listed c.args.l.now = list_on _ checked in
     listed.inside
 
+pub slice_bounds-walk-start : goal.slice_bounds-walk-start
+slice_bounds-walk-start c =
+    let checked : check_list c.args.l.now ≡ On = sym c.list-checked.ensures ∙ c.in-On.is in
+    let listed : Listed c.args.l.now = list_on _ checked in
+    listed.inside
+
 pub walk-walked-requires : goal.walk-walked-requires
 walk-walked-requires c =
     let checked : check_list c.args.l.now ≡ On = sym c.list-checked.ensures ∙ c.in-On.is in

@@ -26,11 +26,11 @@ front-back n xs ys l e = length-append ys (drop n xs) ∙ omega (arith, e, lengt
 
 pub returns-then-not-graph : goal.returns-then-not-graph
 returns-then-not-graph c =
-    says_range _ _ (sym c.graph.ensures ∙ not-true _ c.if-not-graph.true)
+    says_range _ _ (sym c.graph.ensures ∙ c.if-not-graph.true)
 
 pub bounds-l-0 : goal.bounds-l-0
 bounds-l-0 c =
-    omega (arith, there _ c.requires.0)
+    omega (arith, there _ c.requires.drawn)
 
 pub overflow_cast-actors : goal.overflow_cast-actors
 overflow_cast-actors c =
@@ -38,11 +38,11 @@ overflow_cast-actors c =
 
 pub overflow_add-first : goal.overflow_add-first
 overflow_add-first c =
-    omega (arith, there _ c.requires.0)
+    omega (arith, there _ c.requires.drawn)
 
 pub bounds-l-1 : goal.bounds-l-1
 bounds-l-1 c =
-    omega (arith, there _ c.requires.0)
+    omega (arith, there _ c.requires.drawn)
 
 pub overflow_cast-last : goal.overflow_cast-last
 overflow_cast-last c =
@@ -50,15 +50,15 @@ overflow_cast-last c =
 
 pub overflow_mul-last : goal.overflow_mul-last
 overflow_mul-last c =
-    omega (arith, there _ c.requires.0)
+    omega (arith, there _ c.requires.drawn)
 
 pub overflow_add-last : goal.overflow_add-last
 overflow_add-last c =
-    omega (arith, there _ c.requires.0)
+    omega (arith, there _ c.requires.drawn)
 
 pub bounds-l-2 : goal.bounds-l-2
 bounds-l-2 c =
-    omega (arith, there _ c.requires.0)
+    omega (arith, there _ c.requires.drawn)
 
 pub overflow_cast-l : goal.overflow_cast-l
 overflow_cast-l c =
@@ -66,7 +66,7 @@ overflow_cast-l c =
 
 pub bounds-l-3 : goal.bounds-l-3
 bounds-l-3 c =
-    omega (arith, there _ c.requires.0)
+    omega (arith, there _ c.requires.drawn)
 
 pub overflow_cast-l-2 : goal.overflow_cast-l-2
 overflow_cast-l-2 c =
@@ -74,26 +74,30 @@ overflow_cast-l-2 c =
 
 pub offset_bounds-l-first : goal.offset_bounds-l-first
 offset_bounds-l-first c =
-    omega (arith, there _ c.requires.0)
+    omega (arith, there _ c.requires.drawn)
+
+pub slice_bounds-numbers-end : goal.slice_bounds-numbers-end
+slice_bounds-numbers-end c =
+    omega (arith, there _ c.requires.drawn)
 
 pub overflow_mul-actors : goal.overflow_mul-actors
 overflow_mul-actors c =
-    omega (arith, there _ c.requires.0)
+    omega (arith, there _ c.requires.drawn)
 
 pub slice_bounds-numbers-end-2 : goal.slice_bounds-numbers-end-2
 slice_bounds-numbers-end-2 c =
-    let words-room : 3 * get_or c.args.l.now 0 0 ≤ length c.args.words.now = omega (arith, there _ c.requires.0, c.requires.1.1.0.0) in
+    let words-room : 3 * get_or c.args.l.now 0 0 ≤ length c.args.words.now = omega (arith, there _ c.requires.drawn, c.requires.actors_in_bounds.1.0.0) in
     words-room
 
 pub slice_bounds-numbers-end-3 : goal.slice_bounds-numbers-end-3
 slice_bounds-numbers-end-3 c =
-    let words-room : 3 * get_or c.args.l.now 0 0 ≤ length c.args.words.now = omega (arith, there _ c.requires.0, c.requires.1.1.0.0) in
+    let words-room : 3 * get_or c.args.l.now 0 0 ≤ length c.args.words.now = omega (arith, there _ c.requires.drawn, c.requires.actors_in_bounds.1.0.0) in
     sym (length-take-le (3 * get_or c.args.l.now 0 0) c.args.words.now (words-room c))
 
 pub numbers-found-requires : goal.numbers-found-requires
 numbers-found-requires c =
-    let words-room : 3 * get_or c.args.l.now 0 0 ≤ length c.args.words.now = omega (arith, there _ c.requires.0, c.requires.1.1.0.0) in
-    let ranged : let l = c.args.l.now in in_range (layout_of l) l ≡ true = sym c.graph.ensures ∙ not-false _ c.if-not-graph.false in
+    let words-room : 3 * get_or c.args.l.now 0 0 ≤ length c.args.words.now = omega (arith, there _ c.requires.drawn, c.requires.actors_in_bounds.1.0.0) in
+    let ranged : let l = c.args.l.now in in_range (layout_of l) l ≡ true = sym c.graph.ensures ∙ c.if-not-graph.false in
     let l = c.args.l.now in
     let few = drawn_few l c.requires.0.0 c.requires.0.1 in
     let pairs = mul-le-mul few.0 few.0 in
@@ -112,12 +116,12 @@ numbers-found-requires c =
 
 pub shape_of-words : goal.shape_of-words
 shape_of-words c =
-    let words-room : 3 * get_or c.args.l.now 0 0 ≤ length c.args.words.now = omega (arith, there _ c.requires.0, c.requires.1.1.0.0) in
+    let words-room : 3 * get_or c.args.l.now 0 0 ≤ length c.args.words.now = omega (arith, there _ c.requires.drawn, c.requires.actors_in_bounds.1.0.0) in
     front-back (3 * get_or c.args.l.now 0 0) c.args.words.now c.numbers-found.new.words (words-room c) c.numbers-found.auto.words
 
 pub returns : goal.returns
 returns c =
-    let ranged : let l = c.args.l.now in in_range (layout_of l) l ≡ true = sym c.graph.ensures ∙ not-false _ c.if-not-graph.false in
+    let ranged : let l = c.args.l.now in in_range (layout_of l) l ≡ true = sym c.graph.ensures ∙ c.if-not-graph.false in
     let e = c.numbers-found in
     let l = c.args.l.now in
     let g : List ℕ → Graph = λ x. graph_of (get_or l 0 0) (get_or l 2 0) (get_or l 3 0) x in
@@ -126,4 +130,48 @@ returns c =
     subst (λ r. Says c.args.k l r q s) (sym c.refusal.ensures)
     (says c.args.k l q s c.requires.0.0 c.requires.0.1 (omega (arith, c.requires.1.0, e.auto.1.1.1.1.0)) (omega (arith, c.requires.1.0, e.auto.1.1.1.1.1.0)) (ranged c) e.result
     (subst (λ x. Judged (g x) e.result q s) (channels_part l) e.ensures))
+
+pub shape_of-q : goal.shape_of-q
+shape_of-q c =
+    c.numbers-found.auto.q
+
+pub shape_of-s : goal.shape_of-s
+shape_of-s c =
+    c.numbers-found.auto.s
+
+pub shape_of-between : goal.shape_of-between
+shape_of-between c =
+    c.numbers-found.auto.between
+
+pub shape_of-awaits : goal.shape_of-awaits
+shape_of-awaits c =
+    c.numbers-found.auto.awaits
+
+pub shape_of-kept : goal.shape_of-kept
+shape_of-kept c =
+    c.numbers-found.auto.kept
+
+pub shape_of-tokens : goal.shape_of-tokens
+shape_of-tokens c =
+    c.numbers-found.auto.tokens
+
+pub shape_of-left : goal.shape_of-left
+shape_of-left c =
+    c.numbers-found.auto.left
+
+pub shape_of-ready : goal.shape_of-ready
+shape_of-ready c =
+    c.numbers-found.auto.ready
+
+pub shape_of-into : goal.shape_of-into
+shape_of-into c =
+    c.numbers-found.auto.into
+
+pub shape_of-out : goal.shape_of-out
+shape_of-out c =
+    c.numbers-found.auto.out
+
+pub shape_of-hints : goal.shape_of-hints
+shape_of-hints c =
+    c.numbers-found.auto.hints
 

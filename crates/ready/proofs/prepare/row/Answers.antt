@@ -8,7 +8,7 @@ use Rattle.ready.proofs.prepare.row.Goals as goal
 
 pub bounds-l-0 : goal.bounds-l-0
 bounds-l-0 c =
-    omega (arith, there _ c.requires.0)
+    omega (arith, there _ c.requires.l_value)
 
 pub overflow_cast-actors : goal.overflow_cast-actors
 overflow_cast-actors c =
@@ -16,7 +16,7 @@ overflow_cast-actors c =
 
 pub loop-v-init : goal.loop-v-init
 loop-v-init c =
-    placing_start c.requires.0
+    placing_start c.requires.l_value
 
 pub overflow_cast-rows : goal.overflow_cast-rows
 overflow_cast-rows c =
@@ -36,6 +36,6 @@ loop-v-preserved c =
 
 pub returns : goal.returns
 returns c =
-    let room = c.requires.1 in
+    let room = c.requires.in_bounds in
     placing_end c.loop-v.invariant c.loop-v-test.false room.0 room.1 (omega arith)
 

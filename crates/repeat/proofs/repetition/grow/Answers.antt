@@ -81,7 +81,7 @@ shape_of-q-then-not-extend c =
 
 pub returns-then-not-extend : goal.returns-then-not-extend
 returns-then-not-extend c =
-    rw (not-true c.extend.result c.if-not-extend.true) at c.extend.ensures
+    rw c.if-not-extend.true at c.extend.ensures
 
 pub bounds-words-head-in-loop-todo : goal.bounds-words-head-in-loop-todo
 bounds-words-head-in-loop-todo c =
@@ -96,7 +96,7 @@ pub loop-todo-preserved : goal.loop-todo-preserved
 loop-todo-preserved c =
     let graph : Graph = graph_of c.args.actors c.args.input c.args.output c.args.channels.now in
     let joins : let h = c.least-head.result in let t = c.least-tail.result in let q = vector c.loop-todo.q in (t < c.args.actors) × Joins (graph c) (get_or c.args.between.now (c.args.actors * t + h) 0) t h × (0 < q t) × (q h ≡ 0) = growing_joins c.requires.0.sound c.requires.1 c.loop-todo.invariant.2 c.least-head.result c.least-tail.result c.common.result c.least-head.ensures.1 c.common.ensures.0 c.least-tail.ensures.1 in
-    let grown : Extended (graph c) (get_or c.args.between.now (c.args.actors * c.least-tail.result + c.least-head.result) 0) c.loop-todo.q c.extend.new.q = let c = c in subst (λ (r : Bool). Extends (graph c) (get_or c.args.between.now (c.args.actors * c.least-tail.result + c.least-head.result) 0) r c.loop-todo.q c.extend.new.q) (not-false c.extend.result c.if-not-extend.false) c.extend.ensures in
+    let grown : Extended (graph c) (get_or c.args.between.now (c.args.actors * c.least-tail.result + c.least-head.result) 0) c.loop-todo.q c.extend.new.q = let c = c in subst (λ (r : Bool). Extends (graph c) (get_or c.args.between.now (c.args.actors * c.least-tail.result + c.least-head.result) 0) r c.loop-todo.q c.extend.new.q) c.if-not-extend.false c.extend.ensures in
     let w = c in
     let c = w in
     let c = c in

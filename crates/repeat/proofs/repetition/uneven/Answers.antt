@@ -34,7 +34,7 @@ returns-then-not-scale c =
     let extending : Extending graph c.args.c channel (vector before) c.factor-k.result = let p = c.requires in record { sound = p.0.0.sound; within = p.0.3; read = c.read-e.ensures; grown = p.0.2; given = subst (λ (e : Channel). 0 < vector (before c) e.tail) c.read-e.ensures.is p.1.0; missing = subst (λ (e : Channel). vector (before c) e.head ≡ 0) c.read-e.ensures.is p.1.1; factor = rw c.moved.ensures at c.factor-k.ensures; } in
     let after : List ℕ = c.scale.new.q in
     let Scaled : Bool → Type 0 = λ r. ScaleAnswer graph.actors c.factor-k.result r before after in
-    let p : Scaled c false = rw (not-true c.scale.result c.if-not-scale.true) at c.scale.ensures in
+    let p : Scaled c false = rw c.if-not-scale.true at c.scale.ensures in
     past_scaled (extending c) p.0 p.1 p.2
 
 pub moved-requires-2 : goal.moved-requires-2
@@ -43,7 +43,7 @@ moved-requires-2 c =
     let before : List ℕ = c.args.q.now in
     let after : List ℕ = c.scale.new.q in
     let Scaled : Bool → Type 0 = λ r. ScaleAnswer graph.actors c.factor-k.result r before after in
-    let scaled : Scaled true = rw (not-false c.scale.result c.if-not-scale.false) at c.scale.ensures in
+    let scaled : Scaled true = rw c.if-not-scale.false at c.scale.ensures in
     ((scaled c.read-e.result.tail c.read-e.ensures.tail).1, search rules)
 
 pub returns-then-n-gt-MAX_REPETITION : goal.returns-then-n-gt-MAX_REPETITION
@@ -54,7 +54,7 @@ returns-then-n-gt-MAX_REPETITION c =
     let extending : Extending graph c.args.c channel (vector before) c.factor-k.result = let p = c.requires in record { sound = p.0.0.sound; within = p.0.3; read = c.read-e.ensures; grown = p.0.2; given = subst (λ (e : Channel). 0 < vector (before c) e.tail) c.read-e.ensures.is p.1.0; missing = subst (λ (e : Channel). vector (before c) e.head ≡ 0) c.read-e.ensures.is p.1.1; factor = rw c.moved.ensures at c.factor-k.ensures; } in
     let after : List ℕ = c.scale.new.q in
     let Scaled : Bool → Type 0 = λ r. ScaleAnswer graph.actors c.factor-k.result r before after in
-    let scaled : Scaled true = rw (not-false c.scale.result c.if-not-scale.false) at c.scale.ensures in
+    let scaled : Scaled true = rw c.if-not-scale.false at c.scale.ensures in
     let number : let e = channel in c.count-n.result ≡ vector after e.tail * e.produce / e.consume = c.count-n.ensures ∙ c.firings.ensures ∙ ap (λ (m : ℕ). m / channel.consume) c.moved-2.ensures in
     past_head (extending c) (after c) scaled c.count-n.result number (search rules) c.if-n-gt-MAX_REPETITION.true
 
@@ -66,7 +66,7 @@ returns c =
     let extending : Extending graph c.args.c channel (vector before) c.factor-k.result = let p = c.requires in record { sound = p.0.0.sound; within = p.0.3; read = c.read-e.ensures; grown = p.0.2; given = subst (λ (e : Channel). 0 < vector (before c) e.tail) c.read-e.ensures.is p.1.0; missing = subst (λ (e : Channel). vector (before c) e.head ≡ 0) c.read-e.ensures.is p.1.1; factor = rw c.moved.ensures at c.factor-k.ensures; } in
     let after : List ℕ = c.scale.new.q in
     let Scaled : Bool → Type 0 = λ r. ScaleAnswer graph.actors c.factor-k.result r before after in
-    let scaled : Scaled true = rw (not-false c.scale.result c.if-not-scale.false) at c.scale.ensures in
+    let scaled : Scaled true = rw c.if-not-scale.false at c.scale.ensures in
     let number : let e = channel in c.count-n.result ≡ vector after e.tail * e.produce / e.consume = c.count-n.ensures ∙ c.firings.ensures ∙ ap (λ (m : ℕ). m / channel.consume) c.moved-2.ensures in
     extended (extending c) (after c) scaled c.count-n.result number (search rules) c.if-n-gt-MAX_REPETITION.false
 

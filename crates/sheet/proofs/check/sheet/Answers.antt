@@ -27,6 +27,10 @@ module _ (s : List ℕ) (h : 4 ≤ length s) where
   unfolding check_sheet
   graphs e v = rw (le-leb _ _ h, eq-eqb _ _ e, eq-eqb _ _ v)
 
+short : (s : List ℕ) → length s < 4 → check_sheet s ≡ No Length
+unfolding check_sheet
+short s h = rw (lt-leb _ _ h)
+
 pub returns-then-two-s : goal.returns-then-two-s
 returns-then-two-s c =
     sym (wrong-length _ c.if-s-lt4.false (λ e. c.if-two-s.true (c.two.ensures.0 ∙ e)))
@@ -50,4 +54,17 @@ returns c =
     ∙ graphs_walk in_bytes _ c.args.s.now
     4 (omega arith) (omega arith)
     ∙ sym past
+
+pub returns-then-s-lt4 : goal.returns-then-s-lt4
+returns-then-s-lt4 c =
+    sym (short _ c.if-s-lt4.true)
+
+pub overflow_cast-n : goal.overflow_cast-n
+overflow_cast-n c =
+    omega (arith, c.shared_slice_known-3-1.given 3)
+
+pub returns-then-n-lt1 : goal.returns-then-n-lt1
+returns-then-n-lt1 c =
+    let past : let s = c.args.s.now in check_sheet s ≡ check_graphs in_bytes (get_or s 3 0) (drop 4 s) = graphs _ c.if-s-lt4.false (sym c.two.ensures.0 ∙ c.if-two-s.false) c.if-s-ne1.false in
+    sym (past ∙ graphs_none in_bytes _ _ c.if-n-lt1.true)
 

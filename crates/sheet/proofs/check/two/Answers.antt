@@ -16,3 +16,15 @@ returns c =
   omega (arith, c.shared_slice_known-1.given c.args.at, c.shared_slice_known-2-1.given (c.args.at + 1)),
 )
 
+pub overflow_cast-result : goal.overflow_cast-result
+overflow_cast-result c =
+    omega (arith, c.shared_slice_known-1.given c.args.at)
+
+pub overflow_mul-result : goal.overflow_mul-result
+overflow_mul-result c =
+    omega (arith, c.shared_slice_known-1.given c.args.at)
+
+pub overflow_cast-result-2 : goal.overflow_cast-result-2
+overflow_cast-result-2 c =
+    omega (arith, c.shared_slice_known-2-1.given (c.args.at + 1))
+

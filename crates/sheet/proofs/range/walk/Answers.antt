@@ -13,7 +13,7 @@ graph-requires c =
 
 pub returns-then-not-graph : goal.returns-then-not-graph
 returns-then-not-graph c =
-    ranges_no c.loop-k.invariant c.loop-k-test.true (sym c.graph.ensures ∙ not-true _ c.if-not-graph.true)
+    ranges_no c.loop-k.invariant c.loop-k-test.true (sym c.graph.ensures ∙ c.if-not-graph.true)
 
 pub stretch-at-requires : goal.stretch-at-requires
 stretch-at-requires c =
@@ -25,5 +25,13 @@ overflow_add-at c =
 
 pub loop-k-preserved : goal.loop-k-preserved
 loop-k-preserved c =
-    ranges_turn c.loop-k.invariant c.loop-k-test.true c.requires (sym c.graph.ensures ∙ not-false _ c.if-not-graph.false) c.stretch-at.ensures
+    ranges_turn c.loop-k.invariant c.loop-k-test.true c.requires (sym c.graph.ensures ∙ c.if-not-graph.false) c.stretch-at.ensures
+
+pub loop-k-init : goal.loop-k-init
+loop-k-init c =
+    ranges_start _ _
+
+pub returns : goal.returns
+returns c =
+    ranges_end c.loop-k.invariant c.loop-k-test.false
 

@@ -9,16 +9,16 @@ use Rattle.trial.proofs.run.follow.Goals as goal
 
 pub loop-w-init : goal.loop-w-init
 loop-w-init c =
-    (c.requires.1.1, sized_start, following_start c.of-sum.ensures)
+    (c.requires.drawn.1, sized_start, following_start c.of-sum.ensures)
 
 pub visit-k-requires : goal.visit-k-requires
 visit-k-requires c =
     let inv = c.loop-w.invariant in
-    (c.requires.0, (c.requires.1.0, inv.0, run_visitable c.requires.1.0 (following_underway c.requires.1.2 inv.2 inv.1), omega (arith, c.requires.1.3, inv.1.hints_length)))
+    (c.requires.linked, (c.requires.drawn.0, inv.0, run_visitable c.requires.drawn.0 (following_underway c.requires.drawn.2 inv.2 inv.1), omega (arith, c.requires.drawn.3, inv.1.hints_length)))
 
 pub plus-sum-requires : goal.plus-sum-requires
 plus-sum-requires c =
-    visited_fits c.requires.1.0 c.requires.1.2 (following_visit c.loop-w.invariant.2 c.visit-k.ensures.0 refl)
+    visited_fits c.requires.drawn.0 c.requires.drawn.2 (following_visit c.loop-w.invariant.2 c.visit-k.ensures.visited refl)
 
 pub pop-w-requires : goal.pop-w-requires
 pop-w-requires c =
@@ -26,7 +26,7 @@ pop-w-requires c =
 
 pub returns-then-actors-w : goal.returns-then-actors-w
 returns-then-actors-w c =
-    following_visit c.loop-w.invariant.2 c.visit-k.ensures.0 c.plus-sum.ensures
+    following_visit c.loop-w.invariant.2 c.visit-k.ensures.visited c.plus-sum.ensures
 
 pub loop-w-smaller : goal.loop-w-smaller
 loop-w-smaller c =
@@ -37,5 +37,25 @@ loop-w-smaller c =
 pub loop-w-preserved : goal.loop-w-preserved
 loop-w-preserved c =
     let sized : let a = c.args in let last = c.visit-k.new.1.1.1.1.1.1.1 in Sized a.tokens-1.now a.left-1.now a.ready-1.now a.hints-1.now last.0 last.1.0 last.1.1.0 c.pop-w.new.hints = let kept = c.visit-k.auto.1.1.1.1.1.1.1 in sized_again c.loop-w.invariant.1 record { tokens_length = kept.0; left_length = kept.1.0; ready_length = kept.1.1.0; hints_length = c.pop-w.auto.hints ∙ kept.1.1.1.0 } in
-    (c.if-actors-w.false, sized, following_again (following_visit c.loop-w.invariant.2 c.visit-k.ensures.0 c.plus-sum.ensures))
+    (c.if-actors-w.false, sized, following_again (following_visit c.loop-w.invariant.2 c.visit-k.ensures.visited c.plus-sum.ensures))
+
+pub shape_of-tokens-then-actors-w : goal.shape_of-tokens-then-actors-w
+shape_of-tokens-then-actors-w c =
+    let sized : let a = c.args in let last = c.visit-k.new.1.1.1.1.1.1.1 in Sized a.tokens-1.now a.left-1.now a.ready-1.now a.hints-1.now last.0 last.1.0 last.1.1.0 c.pop-w.new.hints = let kept = c.visit-k.auto.1.1.1.1.1.1.1 in sized_again c.loop-w.invariant.1 record { tokens_length = kept.0; left_length = kept.1.0; ready_length = kept.1.1.0; hints_length = c.pop-w.auto.hints ∙ kept.1.1.1.0 } in
+    sized.tokens_length
+
+pub shape_of-left-then-actors-w : goal.shape_of-left-then-actors-w
+shape_of-left-then-actors-w c =
+    let sized : let a = c.args in let last = c.visit-k.new.1.1.1.1.1.1.1 in Sized a.tokens-1.now a.left-1.now a.ready-1.now a.hints-1.now last.0 last.1.0 last.1.1.0 c.pop-w.new.hints = let kept = c.visit-k.auto.1.1.1.1.1.1.1 in sized_again c.loop-w.invariant.1 record { tokens_length = kept.0; left_length = kept.1.0; ready_length = kept.1.1.0; hints_length = c.pop-w.auto.hints ∙ kept.1.1.1.0 } in
+    sized.left_length
+
+pub shape_of-ready-then-actors-w : goal.shape_of-ready-then-actors-w
+shape_of-ready-then-actors-w c =
+    let sized : let a = c.args in let last = c.visit-k.new.1.1.1.1.1.1.1 in Sized a.tokens-1.now a.left-1.now a.ready-1.now a.hints-1.now last.0 last.1.0 last.1.1.0 c.pop-w.new.hints = let kept = c.visit-k.auto.1.1.1.1.1.1.1 in sized_again c.loop-w.invariant.1 record { tokens_length = kept.0; left_length = kept.1.0; ready_length = kept.1.1.0; hints_length = c.pop-w.auto.hints ∙ kept.1.1.1.0 } in
+    sized.ready_length
+
+pub shape_of-hints-then-actors-w : goal.shape_of-hints-then-actors-w
+shape_of-hints-then-actors-w c =
+    let sized : let a = c.args in let last = c.visit-k.new.1.1.1.1.1.1.1 in Sized a.tokens-1.now a.left-1.now a.ready-1.now a.hints-1.now last.0 last.1.0 last.1.1.0 c.pop-w.new.hints = let kept = c.visit-k.auto.1.1.1.1.1.1.1 in sized_again c.loop-w.invariant.1 record { tokens_length = kept.0; left_length = kept.1.0; ready_length = kept.1.1.0; hints_length = c.pop-w.auto.hints ∙ kept.1.1.1.0 } in
+    sized.hints_length
 

@@ -64,3 +64,15 @@ pub returns : goal.returns
 returns c =
     putting_end c.loop-at.invariant.0 (omega arith)
 
+pub shape_of-tokens : goal.shape_of-tokens
+shape_of-tokens c =
+    c.loop-at.invariant.0.changed.size
+
+pub shape_of-ready : goal.shape_of-ready
+shape_of-ready c =
+    c.loop-at.invariant.0.size
+
+pub shape_of-hints : goal.shape_of-hints
+shape_of-hints c =
+    c.loop-at.invariant.1
+

@@ -39,3 +39,7 @@ pub returns : goal.returns
 returns c =
     λ d l. c.loop-at.invariant.walked.passed d (omega arith) l
 
+pub shape_of-tokens : goal.shape_of-tokens
+shape_of-tokens c =
+    c.loop-at.invariant.size
+

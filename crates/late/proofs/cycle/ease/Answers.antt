@@ -1,0 +1,87 @@
+-- `cycle::ease` meets its contract.
+use borrow.Author.Rules.{rules}
+use borrow.Author.Tests.{not-false}
+use mathlib.Core.Path.{sym}
+use native.Mathlib.Omega.{arith}
+use Rattle.demand.specs.Lent.{Lent}
+use Rattle.late.proofs.Parts.{split_lent, eased}
+use Rattle.late.proofs.cycle.ease.Goals as goal
+
+pub pays-requires : goal.pays-requires
+pays-requires c =
+    (c.requires.lent.0.bounded.work i l).period_low
+
+pub returns-then-not-pays : goal.returns-then-not-pays
+returns-then-not-pays c =
+    absurd (omega (arith, c.none.ensures))
+
+pub split-requires : goal.split-requires
+split-requires c =
+    let p = c.requires in
+    ((p.0.1, p.0.2), λ i l. (p.0.0.bounded.work i l).period_low)
+
+pub weigh-requires : goal.weigh-requires
+weigh-requires c =
+    let parts : let a = c.args in Lent c.split.new.short a.times.now a.q.now a.s.now a.room × Lent c.split.new.long a.times.now a.q.now a.s.now a.room = split_lent _ _ _ _ c.requires.lent.0 c.split.ensures in
+    ((parts c).0, omega (arith, c.split.ensures.short_graphs, c.requires.1.0))
+
+pub frame_load-requires : goal.frame_load-requires
+frame_load-requires c =
+    let parts : let a = c.args in Lent c.split.new.short a.times.now a.q.now a.s.now a.room × Lent c.split.new.long a.times.now a.q.now a.s.now a.room = split_lent _ _ _ _ c.requires.lent.0 c.split.ensures in
+    ((parts c).0, omega (arith, c.length_of-length.ensures), c.weigh.ensures)
+
+pub returns-then-count-load : goal.returns-then-count-load
+returns-then-count-load c =
+    absurd (omega (arith, c.none-then-count-load.ensures))
+
+pub blank-requires : goal.blank-requires
+blank-requires c =
+    omega (arith, c.split.ensures.short_graphs, c.requires.1.1)
+
+pub fill-requires : goal.fill-requires
+fill-requires c =
+    let parts : let a = c.args in Lent c.split.new.short a.times.now a.q.now a.s.now a.room × Lent c.split.new.long a.times.now a.q.now a.s.now a.room = split_lent _ _ _ _ c.requires.lent.0 c.split.ensures in
+    let n = c.length_of-length.ensures in
+    ((parts c).0, c.blank.ensures, n.1, omega (arith, n, c.requires.1.3))
+
+pub shape_of-short-then-not-fill : goal.shape_of-short-then-not-fill
+shape_of-short-then-not-fill c =
+    c.split.auto.short
+
+pub shape_of-long-then-not-fill : goal.shape_of-long-then-not-fill
+shape_of-long-then-not-fill c =
+    c.split.auto.long
+
+pub returns-then-not-fill : goal.returns-then-not-fill
+returns-then-not-fill c =
+    absurd (omega (arith, c.none-then-not-fill.ensures))
+
+pub blank-requires-2 : goal.blank-requires-2
+blank-requires-2 c =
+    omega (arith, c.split.ensures.long_graphs, c.requires.1.2)
+
+pub shape_of-short : goal.shape_of-short
+shape_of-short c =
+    c.split.auto.short
+
+pub shape_of-long : goal.shape_of-long
+shape_of-long c =
+    c.split.auto.long
+
+pub shape_of-weight : goal.shape_of-weight
+shape_of-weight c =
+    c.weigh.auto.weight
+
+pub returns : goal.returns
+returns c =
+    let f = c.fill in
+    let m = c.frame_load.ensures in
+    let p = c.requires in
+    let n = c.length_of-length.ensures in (
+      eased _ (sym c.count-2.ensures) p.0.0 c.split.ensures n.0 n.1
+          (omega (arith, f.auto.1.1.1.1.1.1.1.0, p.1.3))
+          (f.ensures c.if-not-fill.false)
+          (omega (arith, c.count-3.ensures, c.count-load.ensures, m, c.count.ensures, c.if-count-load.left)),
+      c.blank-2.ensures,
+    )
+

@@ -1,0 +1,13 @@
+-- `cycle::next_period` meets its contract. The loop's invariant: the shortest period so far is positive and within the bound.
+use borrow.Author.Rules.{rules}
+use mathlib.Core.Logic.{⊎_elim}
+use Prim.Native.Nat.{◌+◌, ◌-◌, ◌<◌, ◌≤◌}
+use native.Mathlib.Omega.{arith}
+use Rattle.late.specs.Cycle.{max_cycle}
+use Rattle.late.proofs.cycle.next_period.Given as goal
+
+abbrev pub invariant-loop-i : goal.invariant-loop-i
+invariant-loop-i l = (0 < l.least) × (l.least ≤ max_cycle + 1) × (l.i ≤ l.n)
+
+abbrev pub decreases-loop-i : goal.decreases-loop-i
+decreases-loop-i l = l.n - l.i

@@ -1,0 +1,15 @@
+-- `end::surplus_of` meets its contract. The loop's invariant: the sum over the graphs passed.
+use borrow.Author.Rules.{rules}
+use mathlib.Core.Path.{◌≡◌, ◌∙◌, ap}
+use Prim.Native.Nat.{◌-◌, ◌≤◌}
+use native.Mathlib.Omega.{arith}
+use Rattle.sdf.specs.Sum.{sum_to}
+use Rattle.late.specs.Search.{graph_surplus}
+use Rattle.late.proofs.Ending.{surplus_added}
+use Rattle.late.proofs.end.surplus_of.Given as goal
+
+abbrev pub invariant-loop-i : goal.invariant-loop-i
+invariant-loop-i l = (l.i ≤ l.n) × (l.sum ≡ sum_to (graph_surplus l.frame.n l.heads l.weight) l.i)
+
+abbrev pub decreases-loop-i : goal.decreases-loop-i
+decreases-loop-i l = l.n - l.i

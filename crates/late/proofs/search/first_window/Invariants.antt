@@ -1,0 +1,13 @@
+-- `search::first_window` meets its contract. The loop's invariant: the greatest deadline so far is positive and within the bound.
+use borrow.Author.Rules.{rules}
+use Prim.Native.Nat.{◌-◌, ◌<◌, ◌≤◌}
+use native.Mathlib.Nat.{max_le, le-max_left, min-le_left}
+use native.Mathlib.Omega.{arith}
+use Rattle.units.specs.Bounds.{max_ticks}
+use Rattle.late.proofs.search.first_window.Given as goal
+
+abbrev pub invariant-loop-i : goal.invariant-loop-i
+invariant-loop-i l = (0 < l.most.n) × (l.most.n ≤ max_ticks) × (l.i ≤ l.n)
+
+abbrev pub decreases-loop-i : goal.decreases-loop-i
+decreases-loop-i l = l.n - l.i
