@@ -91,43 +91,37 @@ fn wrote(w: Written) -> ResultNumbers
     }
 }
 
-#[unsafe(no_mangle)]
-pub extern "C" fn shambrukit_judge(sheet: &[u8]) -> VerdictNumbers
+pub fn shambrukit_judge(sheet: &[u8]) -> VerdictNumbers
     ensures { SheetRow sheet.now (verdict_numbers result) }
 {
     verdict_numbers(bytes::judge(sheet))
 }
 
-#[unsafe(no_mangle)]
-pub extern "C" fn shambrukit_judge_list(numbers: &[u32]) -> VerdictNumbers
+pub fn shambrukit_judge_list(numbers: &[u32]) -> VerdictNumbers
     ensures { ListRow numbers.now (verdict_numbers result) }
 {
     verdict_numbers(list::judge(numbers))
 }
 
-#[unsafe(no_mangle)]
-pub extern "C" fn shambrukit_demand(sheet: &[u8], length: u64) -> ResultNumbers
+pub fn shambrukit_demand(sheet: &[u8], length: u64) -> ResultNumbers
     ensures { SheetSays sheet.now (λ o. demand_told o length) (result_numbers result) }
 {
     told(bytes::demand(sheet, length))
 }
 
-#[unsafe(no_mangle)]
-pub extern "C" fn shambrukit_demand_list(numbers: &[u32], length: u64) -> ResultNumbers
+pub fn shambrukit_demand_list(numbers: &[u32], length: u64) -> ResultNumbers
     ensures { ListSays numbers.now (λ o. demand_told o length) (result_numbers result) }
 {
     told(list::demand(numbers, length))
 }
 
-#[unsafe(no_mangle)]
-pub extern "C" fn shambrukit_fewest(sheet: &[u8], graph: u64, actor: u64, k: u64) -> ResultNumbers
+pub fn shambrukit_fewest(sheet: &[u8], graph: u64, actor: u64, k: u64) -> ResultNumbers
     ensures { SheetSays sheet.now (λ o. fewest_told o graph actor k) (result_numbers result) }
 {
     told(bytes::fewest(sheet, graph, actor, k))
 }
 
-#[unsafe(no_mangle)]
-pub extern "C" fn shambrukit_fewest_list(
+pub fn shambrukit_fewest_list(
     numbers: &[u32],
     graph: u64,
     actor: u64,
@@ -138,15 +132,13 @@ pub extern "C" fn shambrukit_fewest_list(
     told(list::fewest(numbers, graph, actor, k))
 }
 
-#[unsafe(no_mangle)]
-pub extern "C" fn shambrukit_repetition(sheet: &[u8], graph: u64, out: &mut [u64]) -> ResultNumbers
+pub fn shambrukit_repetition(sheet: &[u8], graph: u64, out: &mut [u64]) -> ResultNumbers
     ensures { SheetLends sheet.now (λ o. listed repetition_numbers o graph (length out.old)) (λ o. numbers_of repetition_numbers o graph) (result_numbers result) out.old out.new }
 {
     wrote(bytes::repetition(sheet, graph, out))
 }
 
-#[unsafe(no_mangle)]
-pub extern "C" fn shambrukit_repetition_list(
+pub fn shambrukit_repetition_list(
     numbers: &[u32],
     graph: u64,
     out: &mut [u64],
@@ -156,15 +148,13 @@ pub extern "C" fn shambrukit_repetition_list(
     wrote(list::repetition(numbers, graph, out))
 }
 
-#[unsafe(no_mangle)]
-pub extern "C" fn shambrukit_skips(sheet: &[u8], graph: u64, out: &mut [u64]) -> ResultNumbers
+pub fn shambrukit_skips(sheet: &[u8], graph: u64, out: &mut [u64]) -> ResultNumbers
     ensures { SheetLends sheet.now (λ o. listed skip_numbers o graph (length out.old)) (λ o. numbers_of skip_numbers o graph) (result_numbers result) out.old out.new }
 {
     wrote(bytes::skips(sheet, graph, out))
 }
 
-#[unsafe(no_mangle)]
-pub extern "C" fn shambrukit_skips_list(
+pub fn shambrukit_skips_list(
     numbers: &[u32],
     graph: u64,
     out: &mut [u64],
@@ -174,15 +164,13 @@ pub extern "C" fn shambrukit_skips_list(
     wrote(list::skips(numbers, graph, out))
 }
 
-#[unsafe(no_mangle)]
-pub extern "C" fn shambrukit_tasks(sheet: &[u8], graph: u64, out: &mut [u64]) -> ResultNumbers
+pub fn shambrukit_tasks(sheet: &[u8], graph: u64, out: &mut [u64]) -> ResultNumbers
     ensures { SheetLends sheet.now (λ o. listed task_list o graph (length out.old)) (λ o. numbers_of task_list o graph) (result_numbers result) out.old out.new }
 {
     wrote(bytes::tasks(sheet, graph, out))
 }
 
-#[unsafe(no_mangle)]
-pub extern "C" fn shambrukit_tasks_list(
+pub fn shambrukit_tasks_list(
     numbers: &[u32],
     graph: u64,
     out: &mut [u64],
@@ -192,15 +180,13 @@ pub extern "C" fn shambrukit_tasks_list(
     wrote(list::tasks(numbers, graph, out))
 }
 
-#[unsafe(no_mangle)]
-pub extern "C" fn shambrukit_unpack(sheet: &[u8], out: &mut [u32]) -> ResultNumbers
+pub fn shambrukit_unpack(sheet: &[u8], out: &mut [u32]) -> ResultNumbers
     ensures { SheetLends sheet.now (λ o. whole o (length (unpacked sheet.now)) (length out.old)) (λ _. unpacked sheet.now) (result_numbers result) out.old out.new }
 {
     wrote(bytes::unpack_sheet(sheet, out))
 }
 
-#[unsafe(no_mangle)]
-pub extern "C" fn shambrukit_pack(numbers: &[u32], out: &mut [u8]) -> ResultNumbers
+pub fn shambrukit_pack(numbers: &[u32], out: &mut [u8]) -> ResultNumbers
     ensures { ListLends numbers.now (λ o. whole o (length (packed numbers.now)) (length out.old)) (λ _. packed numbers.now) (result_numbers result) out.old out.new }
 {
     wrote(list::pack(numbers, out))

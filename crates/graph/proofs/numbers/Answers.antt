@@ -28,7 +28,7 @@ returns-in-Unreached c =
     let repetition : List ℕ = c.balance-found.new.q in
     let awaits : List ℕ = c.balance-found.new.awaits in
     let Says : Numbering → Type 0 = λ r. BalanceAnswer graph r repetition awaits in
-    subst (Says c) c.in-Unreached.is c.balance-found.ensures
+    subst Says c.in-Unreached.is c.balance-found.ensures
 
 pub returns-in-Unbalanced : goal.returns-in-Unbalanced
 returns-in-Unbalanced c =
@@ -36,7 +36,7 @@ returns-in-Unbalanced c =
     let repetition : List ℕ = c.balance-found.new.q in
     let awaits : List ℕ = c.balance-found.new.awaits in
     let Says : Numbering → Type 0 = λ r. BalanceAnswer graph r repetition awaits in
-    subst (Says c) c.in-Unbalanced.is c.balance-found.ensures
+    subst Says c.in-Unbalanced.is c.balance-found.ensures
 
 pub offset_bounds-q-input : goal.offset_bounds-q-input
 offset_bounds-q-input c =
@@ -46,7 +46,7 @@ pub bounds-q-input : goal.bounds-q-input
 bounds-q-input c =
     let repetition : List ℕ = c.balance-found.new.q in
     let room : c.args.actors ≤ length repetition = omega (arith, c.requires.actors_in_bounds.0.0, c.balance-found.auto.q) in
-    omega (arith, c.requires.0.0.sound.input, room c)
+    omega (arith, c.requires.drawn.0.sound.input, room)
 
 pub returns-then-q-input-ne1 : goal.returns-then-q-input-ne1
 returns-then-q-input-ne1 c =
@@ -54,7 +54,7 @@ returns-then-q-input-ne1 c =
     let repetition : List ℕ = c.balance-found.new.q in
     let awaits : List ℕ = c.balance-found.new.awaits in
     let Says : Numbering → Type 0 = λ r. BalanceAnswer graph r repetition awaits in
-    let repeats : Reached (graph c) × Repeats (graph c) (repetition c) × Awaits (graph c) (vector (repetition c)) (vector (awaits c)) = subst Says c.in-Found.is c.balance-found.ensures in
+    let repeats : Reached graph × Repeats graph repetition × Awaits graph (vector repetition) (vector awaits) = subst Says c.in-Found.is c.balance-found.ensures in
     let p = repeats in (p.0, p.1, λ o. c.if-q-input-ne1.true o.input)
 
 pub offset_bounds-q-output : goal.offset_bounds-q-output
@@ -65,7 +65,7 @@ pub bounds-q-output : goal.bounds-q-output
 bounds-q-output c =
     let repetition : List ℕ = c.balance-found.new.q in
     let room : c.args.actors ≤ length repetition = omega (arith, c.requires.actors_in_bounds.0.0, c.balance-found.auto.q) in
-    omega (arith, c.requires.0.0.sound.output, room c)
+    omega (arith, c.requires.drawn.0.sound.output, room)
 
 pub returns-then-q-output-ne1 : goal.returns-then-q-output-ne1
 returns-then-q-output-ne1 c =
@@ -73,7 +73,7 @@ returns-then-q-output-ne1 c =
     let repetition : List ℕ = c.balance-found.new.q in
     let awaits : List ℕ = c.balance-found.new.awaits in
     let Says : Numbering → Type 0 = λ r. BalanceAnswer graph r repetition awaits in
-    let repeats : Reached (graph c) × Repeats (graph c) (repetition c) × Awaits (graph c) (vector (repetition c)) (vector (awaits c)) = subst Says c.in-Found.is c.balance-found.ensures in
+    let repeats : Reached graph × Repeats graph repetition × Awaits graph (vector repetition) (vector awaits) = subst Says c.in-Found.is c.balance-found.ensures in
     let p = repeats in (p.0, p.1, λ o. c.if-q-output-ne1.true o.output)
 
 pub lives-requires : goal.lives-requires
@@ -83,12 +83,12 @@ lives-requires c =
     let graph : Graph = let a = c.args in graph_of a.actors a.input a.output a.channels.now in
     let awaits : List ℕ = c.balance-found.new.awaits in
     let Says : Numbering → Type 0 = λ r. BalanceAnswer graph r repetition awaits in
-    let repeats : Reached (graph c) × Repeats (graph c) (repetition c) × Awaits (graph c) (vector (repetition c)) (vector (awaits c)) = subst Says c.in-Found.is c.balance-found.ensures in
+    let repeats : Reached graph × Repeats graph repetition × Awaits graph (vector repetition) (vector awaits) = subst Says c.in-Found.is c.balance-found.ensures in
     let s = c.requires in
-    let p = repeats c in (
+    let p = repeats in (
       (s.0.0, p.1.repetition.balanced, p.2, omega (arith, s.1.0.2, c.balance-found.auto.awaits)),
       (
-        (p.1.bound, room c),
+        (p.1.bound, room),
         (
           (s.1.0.3, s.1.0.1, s.1.1.0.0, omega (arith, s.1.1.0.1, c.balance-found.auto.met), s.1.1.0.2),
           s.1.1.1,
@@ -117,15 +117,15 @@ returns-then-not-lives c =
     let repetition : List ℕ = c.balance-found.new.q in
     let awaits : List ℕ = c.balance-found.new.awaits in
     let Says : Numbering → Type 0 = λ r. BalanceAnswer graph r repetition awaits in
-    let repeats : Reached (graph c) × Repeats (graph c) (repetition c) × Awaits (graph c) (vector (repetition c)) (vector (awaits c)) = subst Says c.in-Found.is c.balance-found.ensures in
-    let once : Once (graph c) (vector (repetition c)) = record { input = c.if-q-input-ne1.false; output = c.if-q-output-ne1.false } in
-    let p = repeats c in
+    let repeats : Reached graph × Repeats graph repetition × Awaits graph (vector repetition) (vector awaits) = subst Says c.in-Found.is c.balance-found.ensures in
+    let once : Once graph (vector repetition) = record { input = c.if-q-input-ne1.false; output = c.if-q-output-ne1.false } in
+    let p = repeats in
     let r = c.lives in
-    (p.0, p.1, once c, decided_no _ r.result c.if-not-lives.true r.ensures)
+    (p.0, p.1, once, decided_no _ r.result c.if-not-lives.true r.ensures)
 
 pub at_rest-requires : goal.at_rest-requires
 at_rest-requires c =
-    (c.requires.0.0, c.draw-back.ensures.1)
+    (c.requires.drawn.0, c.draw-back.ensures.1)
 
 pub shape_of-q-then-not-at_rest : goal.shape_of-q-then-not-at_rest
 shape_of-q-then-not-at_rest c =
@@ -156,12 +156,12 @@ returns-then-not-at_rest c =
     let repetition : List ℕ = c.balance-found.new.q in
     let awaits : List ℕ = c.balance-found.new.awaits in
     let Says : Numbering → Type 0 = λ r. BalanceAnswer graph r repetition awaits in
-    let repeats : Reached (graph c) × Repeats (graph c) (repetition c) × Awaits (graph c) (vector (repetition c)) (vector (awaits c)) = subst Says c.in-Found.is c.balance-found.ensures in
-    let once : Once (graph c) (vector (repetition c)) = record { input = c.if-q-input-ne1.false; output = c.if-q-output-ne1.false } in
-    let lives : Lives (graph c) (vector (repetition c)) = let r = c.lives in decided_yes _ r.result c.if-not-lives.false r.ensures in
-    let p = repeats c in
+    let repeats : Reached graph × Repeats graph repetition × Awaits graph (vector repetition) (vector awaits) = subst Says c.in-Found.is c.balance-found.ensures in
+    let once : Once graph (vector repetition) = record { input = c.if-q-input-ne1.false; output = c.if-q-output-ne1.false } in
+    let lives : Lives graph (vector repetition) = let r = c.lives in decided_yes _ r.result c.if-not-lives.false r.ensures in
+    let p = repeats in
     let r = c.at_rest in
-    (p.0, p.1, once c, lives, decided_no _ r.result c.if-not-at_rest.true r.ensures)
+    (p.0, p.1, once, lives, decided_no _ r.result c.if-not-at_rest.true r.ensures)
 
 pub skips-requires : goal.skips-requires
 skips-requires c =
@@ -170,10 +170,10 @@ skips-requires c =
     let graph : Graph = let a = c.args in graph_of a.actors a.input a.output a.channels.now in
     let awaits : List ℕ = c.balance-found.new.awaits in
     let Says : Numbering → Type 0 = λ r. BalanceAnswer graph r repetition awaits in
-    let repeats : Reached (graph c) × Repeats (graph c) (repetition c) × Awaits (graph c) (vector (repetition c)) (vector (awaits c)) = subst Says c.in-Found.is c.balance-found.ensures in
+    let repeats : Reached graph × Repeats graph repetition × Awaits graph (vector repetition) (vector awaits) = subst Says c.in-Found.is c.balance-found.ensures in
     let s = c.requires in
-    let p = repeats c in record {
-      drawn = (s.0.0, p.0, room c, omega (arith, s.1.0.1, c.lives.auto.share), p.1);
+    let p = repeats in record {
+      drawn = (s.0.0, p.0, room, omega (arith, s.1.0.1, c.lives.auto.share), p.1);
       words = (c.draw-back.ensures.0, c.unskipped-zero.ensures, omega (arith, s.1.1.1.0, c.lives.auto.into));
     }
 
@@ -206,12 +206,12 @@ returns c =
     let repetition : List ℕ = c.balance-found.new.q in
     let awaits : List ℕ = c.balance-found.new.awaits in
     let Says : Numbering → Type 0 = λ r. BalanceAnswer graph r repetition awaits in
-    let repeats : Reached (graph c) × Repeats (graph c) (repetition c) × Awaits (graph c) (vector (repetition c)) (vector (awaits c)) = subst Says c.in-Found.is c.balance-found.ensures in
-    let once : Once (graph c) (vector (repetition c)) = record { input = c.if-q-input-ne1.false; output = c.if-q-output-ne1.false } in
-    let lives : Lives (graph c) (vector (repetition c)) = let r = c.lives in decided_yes _ r.result c.if-not-lives.false r.ensures in
-    let p = repeats c in
+    let repeats : Reached graph × Repeats graph repetition × Awaits graph (vector repetition) (vector awaits) = subst Says c.in-Found.is c.balance-found.ensures in
+    let once : Once graph (vector repetition) = record { input = c.if-q-input-ne1.false; output = c.if-q-output-ne1.false } in
+    let lives : Lives graph (vector repetition) = let r = c.lives in decided_yes _ r.result c.if-not-lives.false r.ensures in
+    let p = repeats in
     let r = c.at_rest in
-    (p.0, p.1, once c, lives, decided_yes _ r.result c.if-not-at_rest.false r.ensures, c.skips.ensures)
+    (p.0, p.1, once, lives, decided_yes _ r.result c.if-not-at_rest.false r.ensures, c.skips.ensures)
 
 pub shape_of-q-then-not-lives : goal.shape_of-q-then-not-lives
 shape_of-q-then-not-lives c =

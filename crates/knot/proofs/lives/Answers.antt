@@ -22,11 +22,11 @@ shares-requires c =
 
 pub overflow_mul-inner : goal.overflow_mul-inner
 overflow_mul-inner c =
-    omega (arith, c.keep-n.ensures.1, c.requires.0.0.channels)
+    omega (arith, c.keep-n.ensures.1, c.requires.drawn.0.channels)
 
 pub slice_bounds-inner-end : goal.slice_bounds-inner-end
 slice_bounds-inner-end c =
-    omega (arith, c.keep-n.ensures.1, c.keep-n.auto.kept, c.requires.1.1.0.0)
+    omega (arith, c.keep-n.ensures.1, c.keep-n.auto.kept, c.requires.at_most.1.0.0)
 
 pub slice_bounds-inner-end-2 : goal.slice_bounds-inner-end-2
 slice_bounds-inner-end-2 c =
@@ -40,7 +40,7 @@ link-requires c =
     let inner-length : length inner ≡ 5 * c.keep-n.result = front_length c.keep-n.new.kept c.keep-n.ensures.1 (rw c.keep-n.auto.kept c.requires.at_most.1.0.0) in
     let inner-fewer : length inner / 5 ≤ length c.args.channels.now / 5 = omega (arith, inner-length, c.keep-n.ensures.1) in
     let drawn : let a = c.args in Drawn (graph_of a.actors a.input a.output inner) = kept_drawn c.requires.drawn.0 c.keep-n.ensures.0 refl refl inner-fewer in
-    (search rules, (drawn c).sound.head, omega (arith, inner-fewer c, c.requires.1.1.1.0))
+    (search rules, drawn.sound.head, omega (arith, inner-fewer, c.requires.at_most.1.1.0))
 
 pub link-requires-2 : goal.link-requires-2
 link-requires-2 c =
@@ -48,7 +48,7 @@ link-requires-2 c =
     let inner-length : length inner ≡ 5 * c.keep-n.result = front_length c.keep-n.new.kept c.keep-n.ensures.1 (rw c.keep-n.auto.kept c.requires.at_most.1.0.0) in
     let inner-fewer : length inner / 5 ≤ length c.args.channels.now / 5 = omega (arith, inner-length, c.keep-n.ensures.1) in
     let drawn : let a = c.args in Drawn (graph_of a.actors a.input a.output inner) = kept_drawn c.requires.drawn.0 c.keep-n.ensures.0 refl refl inner-fewer in
-    (search rules, λ d l. rw add-zero ((drawn c).sound.tail d l), omega (arith, inner-fewer c, c.requires.1.1.1.1))
+    (search rules, λ d l. rw add-zero (drawn.sound.tail d l), omega (arith, inner-fewer, c.requires.at_most.1.1.1))
 
 pub lives-requires : goal.lives-requires
 lives-requires c =
@@ -57,10 +57,10 @@ lives-requires c =
     let inner-fewer : length inner / 5 ≤ length c.args.channels.now / 5 = omega (arith, inner-length, c.keep-n.ensures.1) in
     let drawn : let a = c.args in Drawn (graph_of a.actors a.input a.output inner) = kept_drawn c.requires.drawn.0 c.keep-n.ensures.0 refl refl inner-fewer in
     let room = c.requires.at_most.1.0 in (
-      (drawn c, kept_runnable c.requires.drawn.0.sound (drawn c).sound c.requires.drawn.1 c.keep-n.ensures.0 c.shares.ensures c.requires.at_most.0.0),
+      (drawn, kept_runnable c.requires.drawn.0.sound drawn.sound c.requires.drawn.1 c.keep-n.ensures.0 c.shares.ensures c.requires.at_most.0.0),
       (
-        (rw c.shares.auto.share room.1, le_trans (inner-fewer c) room.2, room.3, room.4),
-        (c.link.ensures, linked_tails (inner c) c.link-2.ensures, c.requires.at_most.1.1.2),
+        (rw c.shares.auto.share room.1, le_trans inner-fewer room.2, room.3, room.4),
+        (c.link.ensures, linked_tails inner c.link-2.ensures, c.requires.at_most.1.1.2),
       ),
     )
 
@@ -70,6 +70,6 @@ returns c =
     let inner-length : length inner ≡ 5 * c.keep-n.result = front_length c.keep-n.new.kept c.keep-n.ensures.1 (rw c.keep-n.auto.kept c.requires.at_most.1.0.0) in
     let inner-fewer : length inner / 5 ≤ length c.args.channels.now / 5 = omega (arith, inner-length, c.keep-n.ensures.1) in
     let drawn : let a = c.args in Drawn (graph_of a.actors a.input a.output inner) = kept_drawn c.requires.drawn.0 c.keep-n.ensures.0 refl refl inner-fewer in
-    let both = knot_decides c.requires.drawn.0.sound (drawn c).sound c.requires.drawn.1 c.keep-n.ensures.0 c.shares.ensures c.core_of-core.ensures.0 in
+    let both = knot_decides c.requires.drawn.0.sound drawn.sound c.requires.drawn.1 c.keep-n.ensures.0 c.shares.ensures c.core_of-core.ensures.0 in
     decides_same c.lives.result both.0 both.1 c.lives.ensures
 

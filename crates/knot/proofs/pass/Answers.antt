@@ -36,7 +36,7 @@ release-rest-requires c =
 
 pub overflow_add-i : goal.overflow_add-i
 overflow_add-i c =
-    omega (arith, c.fits.actors, c.loop-i-test.true)
+    omega (arith, c.ranges.actors, c.loop-i-test.true)
 
 pub loop-i-preserved : goal.loop-i-preserved
 loop-i-preserved c =

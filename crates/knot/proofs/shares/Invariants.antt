@@ -10,7 +10,7 @@ use Rattle.knot.proofs.Keeping.{share_fits, shares_end}
 use Rattle.knot.proofs.shares.Given as goal
 
 abbrev pub invariant-loop-v : goal.invariant-loop-v
-invariant-loop-v l = (l.v ≤ l.actors) × Filled (λ l.v n. n ≡ vector l.q l.v * has l.core l.v / l.d) l.v l.initial.share l.share
+invariant-loop-v l = (v ≤ l.actors) × Filled (λ v n. n ≡ vector l.q v * has l.core v / l.d) v l.initial.share l.share
 
 abbrev pub decreases-loop-v : goal.decreases-loop-v
 decreases-loop-v l = l.actors - l.v

@@ -20,7 +20,7 @@ bounds-q-v c =
 pub divisor-d-requires : goal.divisor-d-requires
 divisor-d-requires c =
     let below : c.least-v.result < c.args.actors = c.requires.0 c.least-v.result (c.loop-todo.invariant.inside c.least-v.result c.least-v.ensures.1) in
-    c.requires.2 c.least-v.result (below c)
+    c.requires.2 c.least-v.result below
 
 pub returns-then-d-eq1 : goal.returns-then-d-eq1
 returns-then-d-eq1 c =

@@ -28,7 +28,7 @@ pub has-requires-2 : goal.has-requires-2
 has-requires-2 c =
     let graph : Graph = let a = c.args in graph_of a.actors a.input a.output a.channels.now in
     let known : Read graph c.args.c (seen c.at-e.result) = read graph c.args.c (seen c.at-e.result) c.requires.0 c.requires.3 (sym c.at-e.ensures) in
-    omega (arith, (known c).head, c.requires.0.actors)
+    omega (arith, known.head, c.requires.0.actors)
 
 pub returns-then-has-eq0-2 : goal.returns-then-has-eq0-2
 returns-then-has-eq0-2 c =
@@ -42,7 +42,7 @@ returns-then-tail-head c =
     let head_in : has c.args.core c.at-e.result.head ≢ 0 = λ z. omega (arith, c.has-2.ensures, c.if-has-eq0-2.false) in
     let q = vector c.args.q.now in
     let e = seen c.at-e.result in
-    within_asks (graph c) q c.args.core c.args.c e c.count.result c.count-then-tail-head.result c.at-e.ensures (tail-in c) (head_in c)
+    within_asks graph q c.args.core c.args.c e c.count.result c.count-then-tail-head.result c.at-e.ensures tail-in head_in
     c.count.ensures
     (c.count-then-tail-head.ensures ∙ sym (enough_own e q c.if-tail-head.true))
 
@@ -50,20 +50,20 @@ pub offset_bounds-q-tail : goal.offset_bounds-q-tail
 offset_bounds-q-tail c =
     let graph : Graph = let a = c.args in graph_of a.actors a.input a.output a.channels.now in
     let known : Read graph c.args.c (seen c.at-e.result) = read graph c.args.c (seen c.at-e.result) c.requires.0 c.requires.3 (sym c.at-e.ensures) in
-    omega (arith, (known c).tail, c.requires.2)
+    omega (arith, known.tail, c.requires.2)
 
 pub bounds-q-tail : goal.bounds-q-tail
 bounds-q-tail c =
     let graph : Graph = let a = c.args in graph_of a.actors a.input a.output a.channels.now in
     let known : Read graph c.args.c (seen c.at-e.result) = read graph c.args.c (seen c.at-e.result) c.requires.0 c.requires.3 (sym c.at-e.ensures) in
-    omega (arith, (known c).tail, c.requires.2)
+    omega (arith, known.tail, c.requires.2)
 
 pub tokens-requires : goal.tokens-requires
 tokens-requires c =
     let graph : Graph = let a = c.args in graph_of a.actors a.input a.output a.channels.now in
     let known : Read graph c.args.c (seen c.at-e.result) = read graph c.args.c (seen c.at-e.result) c.requires.0 c.requires.3 (sym c.at-e.ensures) in
-    let most : c.of.result.n ≤ 4096 = omega (arith, c.of.ensures, c.requires.1 c.at-e.result.tail (known c).tail) in
-    omega (arith, mul-le-mul most (known c).produce.1)
+    let most : c.of.result.n ≤ 4096 = omega (arith, c.of.ensures, c.requires.1 c.at-e.result.tail known.tail) in
+    omega (arith, mul-le-mul most known.produce.1)
 
 pub returns : goal.returns
 returns c =
@@ -72,7 +72,7 @@ returns c =
     let head_in : has c.args.core c.at-e.result.head ≢ 0 = λ z. omega (arith, c.has-2.ensures, c.if-has-eq0-2.false) in
     let q = vector c.args.q.now in
     let e = seen c.at-e.result in
-    within_asks (graph c) q c.args.core c.args.c e c.count-2.result c.count-3.result c.at-e.ensures (tail-in c) (head_in c)
+    within_asks graph q c.args.core c.args.c e c.count-2.result c.count-3.result c.at-e.ensures tail-in head_in
     c.count-2.ensures
     (c.count-3.ensures ∙ c.tokens.ensures ∙ ap (λ (x : ℕ). x * e.produce) c.of.ensures ∙ sym (enough_other e q c.if-tail-head.false))
 

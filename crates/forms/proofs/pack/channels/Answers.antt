@@ -27,5 +27,5 @@ channel-requires c =
 
 pub shape_of-out : goal.shape_of-out
 shape_of-out c =
-    c.loop-k.invariant.auto
+    c.loop-k.invariant.kept
 

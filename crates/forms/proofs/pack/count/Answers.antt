@@ -15,7 +15,7 @@ stretch_bytes-sum-requires c =
 
 pub overflow_add-sum : goal.overflow_add-sum
 overflow_add-sum c =
-    omega (arith, counting_turn made_bytes c.loop-k.invariant c.requires c.loop-k-test.true c.stretch_bytes-sum.ensures refl, c.well-formed)
+    omega (arith, counting_turn made_bytes c.loop-k.invariant c.requires c.loop-k-test.true c.stretch_bytes-sum.ensures refl, c.well_formed)
 
 pub stretch-at-requires : goal.stretch-at-requires
 stretch-at-requires c =

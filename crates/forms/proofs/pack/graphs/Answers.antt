@@ -27,7 +27,7 @@ stretch-at-requires c =
 
 pub overflow_add-at : goal.overflow_add-at
 overflow_add-at c =
-    omega (arith, next_turn c.loop-k.invariant.walk c.requires.0 c.loop-k-test.true c.stretch-at.ensures, c.well-formed)
+    omega (arith, next_turn c.loop-k.invariant.walk c.requires.0 c.loop-k-test.true c.stretch-at.ensures, c.well_formed)
 
 pub loop-k-preserved : goal.loop-k-preserved
 loop-k-preserved c =
@@ -39,7 +39,7 @@ loop-k-init c =
 
 pub shape_of-out : goal.shape_of-out
 shape_of-out c =
-    c.loop-k.invariant.auto
+    c.loop-k.invariant.kept
 
 pub returns : goal.returns
 returns c =

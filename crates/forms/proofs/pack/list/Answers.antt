@@ -24,21 +24,21 @@ graphs-requires c =
     let passed : check_numbers c.args.l.now ≡ On = sym c.numbers-checked.ensures ∙ c.in-On.is in
     let graphs-of : Listed c.args.l.now = listed _ (numbers_on _ passed).0 in
     let counted : Counted c.args.l.now (4 + c.count-all.result) = record { on = passed; count = ap (λ (n : ℕ). 4 + n) c.count-all.ensures } in
-    ((graphs-of c).walk, simp (length-take, length-drop, length-set) (omega (arith, (counted c).count-all)))
+    (graphs-of.walk, simp (length-take, length-drop, length-set) (omega (arith, counted.count-all)))
 
 pub shape_of-out : goal.shape_of-out
 shape_of-out c =
     let passed : check_numbers c.args.l.now ≡ On = sym c.numbers-checked.ensures ∙ c.in-On.is in
     let counted : Counted c.args.l.now (4 + c.count-all.result) = record { on = passed; count = ap (λ (n : ℕ). 4 + n) c.count-all.ensures } in
-    let head : let a = c.args in Filling a.out-1.now (set (set c.two.new.out 2 1) 3 (get_or a.l.now 0 0)) (packed a.l.now) (body a.l.now) 4 = pack_head counted _ _ c.if-out-all.false c.two.ensures in
-    (pack_graphs (counted c) c.if-out-all.false head c.graphs.ensures).0
+    let head : let a = c.args in Filling a.out.now (set (set c.two.new.out 2 1) 3 (get_or a.l.now 0 0)) (packed a.l.now) (body a.l.now) 4 = pack_head counted _ _ c.if-out-all.false c.two.ensures in
+    (pack_graphs counted c.if-out-all.false head c.graphs.ensures).0
 
 pub returns : goal.returns
 returns c =
     let passed : check_numbers c.args.l.now ≡ On = sym c.numbers-checked.ensures ∙ c.in-On.is in
     let counted : Counted c.args.l.now (4 + c.count-all.result) = record { on = passed; count = ap (λ (n : ℕ). 4 + n) c.count-all.ensures } in
-    let head : let a = c.args in Filling a.out-1.now (set (set c.two.new.out 2 1) 3 (get_or a.l.now 0 0)) (packed a.l.now) (body a.l.now) 4 = pack_head counted _ _ c.if-out-all.false c.two.ensures in
-    (pack_wrote (counted c) _ c.if-out-all.false, (pack_graphs (counted c) c.if-out-all.false head c.graphs.ensures).1)
+    let head : let a = c.args in Filling a.out.now (set (set c.two.new.out 2 1) 3 (get_or a.l.now 0 0)) (packed a.l.now) (body a.l.now) 4 = pack_head counted _ _ c.if-out-all.false c.two.ensures in
+    (pack_wrote counted _ c.if-out-all.false, (pack_graphs counted c.if-out-all.false head c.graphs.ensures).1)
 
 pub bounds-l-0 : goal.bounds-l-0
 bounds-l-0 c =

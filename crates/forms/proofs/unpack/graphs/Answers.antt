@@ -72,7 +72,7 @@ loop-k-preserved c =
 
 pub shape_of-list : goal.shape_of-list
 shape_of-list c =
-    c.loop-k.invariant.auto
+    c.loop-k.invariant.kept
 
 pub returns : goal.returns
 returns c =

@@ -31,12 +31,12 @@ pub graphs-requires : goal.graphs-requires
 graphs-requires c =
     let on : check_sheet c.args.s.now ≡ On = sym c.sheet-checked.ensures ∙ c.in-On.is in
     let known : Sheet c.args.s.now = sheet_on _ on in
-    (rw (part_is_drop _ 4) (known c).rest.walk, unpack_behind _ (on c) c.count-all.ensures c.args.list.now c.if-list-all.false)
+    (rw (part_is_drop _ 4) known.rest.walk, unpack_behind _ on c.count-all.ensures c.args.list.now c.if-list-all.false)
 
 pub returns : goal.returns
 returns c =
     let on : check_sheet c.args.s.now ≡ On = sym c.sheet-checked.ensures ∙ c.in-On.is in
-    let o = on c in
+    let o = on in
     let left = c.if-list-all.false in
     (unpack_wrote _ o c.count-all.ensures _ left, unpack_memory _ o c.count-all.ensures _ left c.graphs.ensures)
 

@@ -27,5 +27,5 @@ time-requires c =
 
 pub shape_of-list : goal.shape_of-list
 shape_of-list c =
-    c.loop-k.invariant.auto
+    c.loop-k.invariant.kept
 

@@ -49,20 +49,20 @@ offset_bounds-s-tail c =
 pub bounds-s-tail : goal.bounds-s-tail
 bounds-s-tail c =
     let ends : let s = c.args in Ends (graph_of s.actors s.input s.output s.channels.now) s.actors (c.loop-at.at - 1) c.number-tail.result s.h = channel_ends _ _ _ c.args.channels.now _ _ _ c.requires.drawn.0.sound (omega (arith, c.loop-at.invariant.walked.within, c.loop-at-test.true)) c.number-tail.ensures (sym (c.loop-at.invariant.walked.ends (c.loop-at.at - 1) (omega (arith, c.loop-at-test.true)))) in
-    omega (arith, (ends c).near_below, c.requires.0.3, c.loop-at.invariant.same_length)
+    omega (arith, ends.near_below, c.requires.drawn.3, c.loop-at.invariant.same_length)
 
 pub lowers-requires : goal.lowers-requires
 lowers-requires c =
     let ends : let s = c.args in Ends (graph_of s.actors s.input s.output s.channels.now) s.actors (c.loop-at.at - 1) c.number-tail.result s.h = channel_ends _ _ _ c.args.channels.now _ _ _ c.requires.drawn.0.sound (omega (arith, c.loop-at.invariant.walked.within, c.loop-at-test.true)) c.number-tail.ensures (sym (c.loop-at.invariant.walked.ends (c.loop-at.at - 1) (omega (arith, c.loop-at-test.true)))) in
     let d = c.requires.drawn.0 in
-    let e = ends c in
+    let e = ends in
     (e.channel, d.sound.produce _ e.channel, rw c.of-skip.ensures (lowering_fits e c.loop-at.invariant d), rw c.of.ensures (lowering_asks e c.loop-at.invariant d))
 
 pub allowed-requires : goal.allowed-requires
 allowed-requires c =
     let ends : let s = c.args in Ends (graph_of s.actors s.input s.output s.channels.now) s.actors (c.loop-at.at - 1) c.number-tail.result s.h = channel_ends _ _ _ c.args.channels.now _ _ _ c.requires.drawn.0.sound (omega (arith, c.loop-at.invariant.walked.within, c.loop-at-test.true)) c.number-tail.ensures (sym (c.loop-at.invariant.walked.ends (c.loop-at.at - 1) (omega (arith, c.loop-at-test.true)))) in
     let d = c.requires.drawn.0 in
-    let e = ends c in
+    let e = ends in
     (e.channel, d.sound.produce _ e.channel, rw c.of-skip.ensures (lowering_fits e c.loop-at.invariant d))
 
 pub offset_bounds-s-tail-then-lowers : goal.offset_bounds-s-tail-then-lowers
@@ -78,12 +78,12 @@ bounds-s-tail-then-lowers c =
 pub with-fell-requires : goal.with-fell-requires
 with-fell-requires c =
     let ends : let s = c.args in Ends (graph_of s.actors s.input s.output s.channels.now) s.actors (c.loop-at.at - 1) c.number-tail.result s.h = channel_ends _ _ _ c.args.channels.now _ _ _ c.requires.drawn.0.sound (omega (arith, c.loop-at.invariant.walked.within, c.loop-at-test.true)) c.number-tail.ensures (sym (c.loop-at.invariant.walked.ends (c.loop-at.at - 1) (omega (arith, c.loop-at-test.true)))) in
-    omega (arith, (ends c).near_below, c.requires.0.0.actors)
+    omega (arith, ends.near_below, c.requires.drawn.0.actors)
 
 pub loop-at-smaller-then-lowers : goal.loop-at-smaller-then-lowers
 loop-at-smaller-then-lowers c =
     let next : let s = c.args in Chain (heads s.channels.now) s.h (c.loop-at.at - 1) (get_or s.into.now (s.actors + (c.loop-at.at - 1)) 0) = walked_next c.requires.drawn.1 c.loop-at.invariant.walked (omega (arith, c.loop-at-test.true)) in
-    omega (arith, (next c).within, c.loop-at-test.true)
+    omega (arith, next.within, c.loop-at-test.true)
 
 pub loop-at-preserved-then-lowers : goal.loop-at-preserved-then-lowers
 loop-at-preserved-then-lowers c =
@@ -93,9 +93,9 @@ loop-at-preserved-then-lowers c =
     let c = c in
     let i = c in
     let c = i in
-    lowering_lower (ends c) c.loop-at.invariant c.count.result
+    lowering_lower ends c.loop-at.invariant c.count.result
     (c.count.ensures ∙ c.allowed.ensures ∙ ap (allowed (channel_at c.args.channels.now (c.loop-at.at - 1))) c.of-skip.ensures)
-    (decided_yes _ c.lowers.result c.if-lowers.true (tested c))
+    (decided_yes _ c.lowers.result c.if-lowers.true tested)
     c.with-fell.ensures
     (omega (arith, i.loop-at-test.true))
     (next i)
@@ -104,14 +104,14 @@ loop-at-preserved-then-lowers c =
 pub loop-at-smaller : goal.loop-at-smaller
 loop-at-smaller c =
     let next : let s = c.args in Chain (heads s.channels.now) s.h (c.loop-at.at - 1) (get_or s.into.now (s.actors + (c.loop-at.at - 1)) 0) = walked_next c.requires.drawn.1 c.loop-at.invariant.walked (omega (arith, c.loop-at-test.true)) in
-    omega (arith, (next c).within, c.loop-at-test.true)
+    omega (arith, next.within, c.loop-at-test.true)
 
 pub loop-at-preserved : goal.loop-at-preserved
 loop-at-preserved c =
     let next : let s = c.args in Chain (heads s.channels.now) s.h (c.loop-at.at - 1) (get_or s.into.now (s.actors + (c.loop-at.at - 1)) 0) = walked_next c.requires.drawn.1 c.loop-at.invariant.walked (omega (arith, c.loop-at-test.true)) in
     let ends : let s = c.args in Ends (graph_of s.actors s.input s.output s.channels.now) s.actors (c.loop-at.at - 1) c.number-tail.result s.h = channel_ends _ _ _ c.args.channels.now _ _ _ c.requires.drawn.0.sound (omega (arith, c.loop-at.invariant.walked.within, c.loop-at-test.true)) c.number-tail.ensures (sym (c.loop-at.invariant.walked.ends (c.loop-at.at - 1) (omega (arith, c.loop-at-test.true)))) in
     let tested : Decides c.lowers.result (allowed (channel_at c.args.channels.now (c.loop-at.at - 1)) (get_or c.loop-at.s c.args.h 0) < get_or c.loop-at.s c.number-tail.result 0) = rw (← c.of-skip.ensures, ← c.of.ensures) c.lowers.ensures in
-    lowering_met (ends c) c.loop-at.invariant (omega (arith, c.loop-at-test.true)) (next c) (decided_no _ c.lowers.result c.if-lowers.false tested)
+    lowering_met ends c.loop-at.invariant (omega (arith, c.loop-at-test.true)) next (decided_no _ c.lowers.result c.if-lowers.false tested)
 
 pub shape_of-s : goal.shape_of-s
 shape_of-s c =

@@ -29,7 +29,7 @@ pub returns-then-covers : goal.returns-then-covers
 returns-then-covers c =
     let graph : Graph = let s = c.args in graph_of s.actors s.input s.output s.channels.now in
     let falling : Falling graph c.args.zero (vector c.start.new.s) = let p = c.requires in falling_start _ _ _ _ p.0.0 p.0.4 c.start.ensures p.0.1 p.1.1 in
-    zero_skips c.requires.0.0 (falling c) (decided_yes _ c.covers.result c.if-covers.true c.covers.ensures)
+    zero_skips c.requires.drawn.0 falling (decided_yes _ c.covers.result c.if-covers.true c.covers.ensures)
 
 pub link-requires : goal.link-requires
 link-requires c =
@@ -40,13 +40,13 @@ loop-todo-init c =
     let graph : Graph = let s = c.args in graph_of s.actors s.input s.output s.channels.now in
     let falling : Falling graph c.args.zero (vector c.start.new.s) = let p = c.requires in falling_start _ _ _ _ p.0.0 p.0.4 c.start.ensures p.0.1 p.1.1 in
     let p = c.requires in
-    (refl, settling_start p.0.0 (falling c) (watched_start _ _ _ _ p.0.0 p.0.4 c.start.ensures) c.entries-todo.ensures)
+    (refl, settling_start p.0.0 falling (watched_start _ _ _ _ p.0.0 p.0.4 c.start.ensures) c.entries-todo.ensures)
 
 pub lower-fell-requires : goal.lower-fell-requires
 lower-fell-requires c =
     let size : length c.loop-todo.s ≡ length c.args.s.now = c.loop-todo.invariant.0 ∙ c.start.auto.s in
     let p = c.requires in record {
-      drawn = (p.0.0, c.link.ensures, c.loop-todo.invariant.1.actors _ c.greatest-h.ensures.1, omega (arith, size c, p.0.3));
+      drawn = (p.0.0, c.link.ensures, c.loop-todo.invariant.1.actors _ c.greatest-h.ensures.1, omega (arith, size, p.0.3));
       falling = c.loop-todo.invariant.1.falling;
     }
 
@@ -57,13 +57,13 @@ without-requires c =
 pub loop-todo-smaller : goal.loop-todo-smaller
 loop-todo-smaller c =
     let graph : Graph = let s = c.args in graph_of s.actors s.input s.output s.channels.now in
-    let looks : Looks (graph c) c.args.zero c.greatest-h.result c.loop-todo.todo c.without.result c.lower-fell.result c.joined-todo.result c.loop-todo.s c.lower-fell.new.s = record { one = c.greatest-h.ensures.1; off = c.without.ensures; lowered = c.lower-fell.ensures; rest = c.joined-todo.ensures } in
+    let looks : Looks graph c.args.zero c.greatest-h.result c.loop-todo.todo c.without.result c.lower-fell.result c.joined-todo.result c.loop-todo.s c.lower-fell.new.s = record { one = c.greatest-h.ensures.1; off = c.without.ensures; lowered = c.lower-fell.ensures; rest = c.joined-todo.ensures } in
     settling_less c.loop-todo.invariant.1 looks (omega arith)
 
 pub loop-todo-preserved : goal.loop-todo-preserved
 loop-todo-preserved c =
     let graph : Graph = let s = c.args in graph_of s.actors s.input s.output s.channels.now in
-    let looks : Looks (graph c) c.args.zero c.greatest-h.result c.loop-todo.todo c.without.result c.lower-fell.result c.joined-todo.result c.loop-todo.s c.lower-fell.new.s = record { one = c.greatest-h.ensures.1; off = c.without.ensures; lowered = c.lower-fell.ensures; rest = c.joined-todo.ensures } in
+    let looks : Looks graph c.args.zero c.greatest-h.result c.loop-todo.todo c.without.result c.lower-fell.result c.joined-todo.result c.loop-todo.s c.lower-fell.new.s = record { one = c.greatest-h.ensures.1; off = c.without.ensures; lowered = c.lower-fell.ensures; rest = c.joined-todo.ensures } in
     (c.lower-fell.auto.s ∙ c.loop-todo.invariant.0, settling_turn c.loop-todo.invariant.1 looks)
 
 pub shape_of-into : goal.shape_of-into

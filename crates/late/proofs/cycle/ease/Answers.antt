@@ -23,12 +23,12 @@ split-requires c =
 pub weigh-requires : goal.weigh-requires
 weigh-requires c =
     let parts : let a = c.args in Lent c.split.new.short a.times.now a.q.now a.s.now a.room × Lent c.split.new.long a.times.now a.q.now a.s.now a.room = split_lent _ _ _ _ c.requires.lent.0 c.split.ensures in
-    ((parts c).0, omega (arith, c.split.ensures.short_graphs, c.requires.1.0))
+    (parts.0, omega (arith, c.split.ensures.short_graphs, c.requires.heads_in_bounds.0))
 
 pub frame_load-requires : goal.frame_load-requires
 frame_load-requires c =
     let parts : let a = c.args in Lent c.split.new.short a.times.now a.q.now a.s.now a.room × Lent c.split.new.long a.times.now a.q.now a.s.now a.room = split_lent _ _ _ _ c.requires.lent.0 c.split.ensures in
-    ((parts c).0, omega (arith, c.length_of-length.ensures), c.weigh.ensures)
+    (parts.0, omega (arith, c.length_of-length.ensures), c.weigh.ensures)
 
 pub returns-then-count-load : goal.returns-then-count-load
 returns-then-count-load c =
@@ -36,13 +36,13 @@ returns-then-count-load c =
 
 pub blank-requires : goal.blank-requires
 blank-requires c =
-    omega (arith, c.split.ensures.short_graphs, c.requires.1.1)
+    omega (arith, c.split.ensures.short_graphs, c.requires.heads_in_bounds.1)
 
 pub fill-requires : goal.fill-requires
 fill-requires c =
     let parts : let a = c.args in Lent c.split.new.short a.times.now a.q.now a.s.now a.room × Lent c.split.new.long a.times.now a.q.now a.s.now a.room = split_lent _ _ _ _ c.requires.lent.0 c.split.ensures in
     let n = c.length_of-length.ensures in
-    ((parts c).0, c.blank.ensures, n.1, omega (arith, n, c.requires.1.3))
+    (parts.0, c.blank.ensures, n.1, omega (arith, n, c.requires.heads_in_bounds.3))
 
 pub shape_of-short-then-not-fill : goal.shape_of-short-then-not-fill
 shape_of-short-then-not-fill c =
@@ -58,7 +58,7 @@ returns-then-not-fill c =
 
 pub blank-requires-2 : goal.blank-requires-2
 blank-requires-2 c =
-    omega (arith, c.split.ensures.long_graphs, c.requires.1.2)
+    omega (arith, c.split.ensures.long_graphs, c.requires.heads_in_bounds.2)
 
 pub shape_of-short : goal.shape_of-short
 shape_of-short c =

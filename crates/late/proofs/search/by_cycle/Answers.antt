@@ -9,7 +9,7 @@ blank-requires c =
 
 pub search-found-requires : goal.search-found-requires
 search-found-requires c =
-    let s = c.requires.0 in
+    let s = c.requires.lent in
     let first = c.of.ensures in
     (s.0, s.1, omega (arith, first), omega (arith, first), s.2, c.blank.ensures, c.ease-cycle.ensures)
 
@@ -33,5 +33,5 @@ returns-in-Never c =
 pub returns-in-Open : goal.returns-in-Open
 returns-in-Open c =
     let more = c.in-Open.ensures in
-    absurd (omega (arith, more, c.requires.0.1))
+    absurd (omega (arith, more, c.requires.lent.1))
 

@@ -25,13 +25,13 @@ pub floor_at-requires : goal.floor_at-requires
 floor_at-requires c =
     let positive : 0 < c.args.cycle.length = omega arith in
     let p = c.requires in
-    let e = (p.3 (positive c)).0 in
-    (positive c, e.there, e.length_high, e.rest_high, omega (arith, p.1))
+    let e = (p.3 positive).0 in
+    (positive, e.there, e.length_high, e.rest_high, omega (arith, p.1))
 
 -- With the table.
 pub returns-then-count : goal.returns-then-count
 returns-then-count c =
     let positive : 0 < c.args.cycle.length = omega arith in
     let l = c.look-asks.ensures in
-    (glanced_eased (c.requires.3 (positive c)).0 l.0 (omega arith), λ _. l.1)
+    (glanced_eased (c.requires.3 positive).0 l.0 (omega arith), λ _. l.1)
 

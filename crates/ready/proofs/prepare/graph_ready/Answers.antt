@@ -42,7 +42,7 @@ returns c =
       take (get_or l 0 0) q,
       take (get_or l 0 0) s,
       subst (λ r. Says c.args.k l r q s) c.in-On.is engine.ensures,
-      row_filled (times_length l c.requires.0.0 c.requires.0.1) heads row,
+      row_filled (times_length l c.requires.l_value.0 c.requires.l_value.1) heads row,
       heads.same,
       row.same,
     )

@@ -53,7 +53,7 @@ pub returns-in-No-walked : goal.returns-in-No-walked
 returns-in-No-walked c =
     let checked : check_list c.args.l.now ≡ On = sym c.list-checked.ensures ∙ c.in-On.is in
     let Walks : Answer → Type 0 = λ r. let l = c.args.l.now in let last = c.walk-walked.new.1.1 in Walked (get_or l 0 0) (next_of l 1) r last.0 last.1.0 in
-    prepares_walk _ _ checked (subst (Walks c) c.in-No-walked.is c.walk-walked.ensures)
+    prepares_walk _ _ checked (subst Walks c.in-No-walked.is c.walk-walked.ensures)
 
 pub overflow_mul-all : goal.overflow_mul-all
 overflow_mul-all c =
@@ -93,7 +93,7 @@ returns-in-Within c =
     let walked : Walks On = subst Walks c.in-On-walked.is c.walk-walked.ensures in
     let listed : Listed c.args.l.now = list_on _ checked in
     let room : let heads = c.walk-walked.new.heads in (24 ≤ length heads) × (3 * get_or c.args.l.now 0 0 ≤ length heads) = let kept = c.walk-walked.auto in let pre = c.requires in (omega (arith, kept, pre), omega (arith, kept, pre, listed.few)) in
-    let framed : Frames c.frame-found.result = prepares_ready _ _ _ checked (room c).0 (walked c) c.frame-found.result c.frame-found.ensures in
+    let framed : Frames c.frame-found.result = prepares_ready _ _ _ checked room.0 walked c.frame-found.result c.frame-found.ensures in
     subst Frames c.in-Within.is framed
 
 pub returns-in-Outside : goal.returns-in-Outside
@@ -104,6 +104,6 @@ returns-in-Outside c =
     let walked : Walks On = subst Walks c.in-On-walked.is c.walk-walked.ensures in
     let listed : Listed c.args.l.now = list_on _ checked in
     let room : let heads = c.walk-walked.new.heads in (24 ≤ length heads) × (3 * get_or c.args.l.now 0 0 ≤ length heads) = let kept = c.walk-walked.auto in let pre = c.requires in (omega (arith, kept, pre), omega (arith, kept, pre, listed.few)) in
-    let framed : Frames c.frame-found.result = prepares_ready _ _ _ checked (room c).0 (walked c) c.frame-found.result c.frame-found.ensures in
+    let framed : Frames c.frame-found.result = prepares_ready _ _ _ checked room.0 walked c.frame-found.result c.frame-found.ensures in
     subst Frames c.in-Outside.is framed
 

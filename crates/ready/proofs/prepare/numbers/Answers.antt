@@ -92,19 +92,19 @@ slice_bounds-numbers-end-2 c =
 pub slice_bounds-numbers-end-3 : goal.slice_bounds-numbers-end-3
 slice_bounds-numbers-end-3 c =
     let words-room : 3 * get_or c.args.l.now 0 0 ≤ length c.args.words.now = omega (arith, there _ c.requires.drawn, c.requires.actors_in_bounds.1.0.0) in
-    sym (length-take-le (3 * get_or c.args.l.now 0 0) c.args.words.now (words-room c))
+    sym (length-take-le (3 * get_or c.args.l.now 0 0) c.args.words.now words-room)
 
 pub numbers-found-requires : goal.numbers-found-requires
 numbers-found-requires c =
     let words-room : 3 * get_or c.args.l.now 0 0 ≤ length c.args.words.now = omega (arith, there _ c.requires.drawn, c.requires.actors_in_bounds.1.0.0) in
     let ranged : let l = c.args.l.now in in_range (layout_of l) l ≡ true = sym c.graph.ensures ∙ c.if-not-graph.false in
     let l = c.args.l.now in
-    let few = drawn_few l c.requires.0.0 c.requires.0.1 in
+    let few = drawn_few l c.requires.drawn.0 c.requires.drawn.1 in
     let pairs = mul-le-mul few.0 few.0 in
-    let (q_room, s-room) = c.requires.1.0 in
-    let (words-there, between-room, awaits-room, kept-room) = c.requires.1.1.0 in
-    let (tokens_room, left_room, ready_room, into-room, out-room, hints-room) = c.requires.1.1.1 in (
-      (rw channels_part (drawn_sound l c.requires.0.0 c.requires.0.1 (ranged c)), length-take-le (3 * get_or l 0 0) c.args.words.now (words-room c), omega (arith, between-room, pairs)),
+    let (q_room, s-room) = c.requires.actors_in_bounds.0 in
+    let (words-there, between-room, awaits-room, kept-room) = c.requires.actors_in_bounds.1.0 in
+    let (tokens_room, left_room, ready_room, into-room, out-room, hints-room) = c.requires.actors_in_bounds.1.1 in (
+      (rw channels_part (drawn_sound l c.requires.drawn.0 c.requires.drawn.1 ranged), length-take-le (3 * get_or l 0 0) c.args.words.now words-room, omega (arith, between-room, pairs)),
       (
         (omega (arith, q_room, few), omega (arith, s-room, few), omega (arith, awaits-room, few), rw channels_part (omega (arith, kept-room, few))),
         (
@@ -117,7 +117,7 @@ numbers-found-requires c =
 pub shape_of-words : goal.shape_of-words
 shape_of-words c =
     let words-room : 3 * get_or c.args.l.now 0 0 ≤ length c.args.words.now = omega (arith, there _ c.requires.drawn, c.requires.actors_in_bounds.1.0.0) in
-    front-back (3 * get_or c.args.l.now 0 0) c.args.words.now c.numbers-found.new.words (words-room c) c.numbers-found.auto.words
+    front-back (3 * get_or c.args.l.now 0 0) c.args.words.now c.numbers-found.new.words words-room c.numbers-found.auto.words
 
 pub returns : goal.returns
 returns c =
@@ -128,7 +128,7 @@ returns c =
     let q = e.new.1.1.1.1.0 in
     let s = e.new.1.1.1.1.1.0 in
     subst (λ r. Says c.args.k l r q s) (sym c.refusal.ensures)
-    (says c.args.k l q s c.requires.0.0 c.requires.0.1 (omega (arith, c.requires.1.0, e.auto.1.1.1.1.0)) (omega (arith, c.requires.1.0, e.auto.1.1.1.1.1.0)) (ranged c) e.result
+    (says c.args.k l q s c.requires.drawn.0 c.requires.drawn.1 (omega (arith, c.requires.actors_in_bounds.0, e.auto.1.1.1.1.0)) (omega (arith, c.requires.actors_in_bounds.0, e.auto.1.1.1.1.1.0)) ranged e.result
     (subst (λ x. Judged (g x) e.result q s) (channels_part l) e.ensures))
 
 pub shape_of-q : goal.shape_of-q

@@ -71,7 +71,7 @@ graph_ready-found-requires c =
     let here : let l = next_of c.args.l.now c.loop-k.at in (sized l ≡ true) × (stretch in_numbers l ≤ length l) = next_stands c.loop-k.invariant.0.walk c.requires.0 c.loop-k-test.true in
     let (w, room) = c.loop-k.invariant in
     let a = c.requires in
-    (here c, ((omega (arith, c.loop-k-test.true, a), omega (arith, w.heads_kept, a), omega (arith, w.rows_kept, a)), ((omega (arith, room.0), omega (arith, room.1)), ((omega (arith, room.2), omega (arith, room.3), omega (arith, room.4), omega (arith, room.5)), (omega (arith, room.6), omega (arith, room.7), omega (arith, room.8), omega (arith, room.9), omega (arith, room.10), omega (arith, room.11))))))
+    (here, ((omega (arith, c.loop-k-test.true, a), omega (arith, w.heads_kept, a), omega (arith, w.rows_kept, a)), ((omega (arith, room.0), omega (arith, room.1)), ((omega (arith, room.2), omega (arith, room.3), omega (arith, room.4), omega (arith, room.5)), (omega (arith, room.6), omega (arith, room.7), omega (arith, room.8), omega (arith, room.9), omega (arith, room.10), omega (arith, room.11))))))
 
 pub shape_of-heads-in-No : goal.shape_of-heads-in-No
 shape_of-heads-in-No c =
@@ -84,7 +84,7 @@ shape_of-rows-in-No c =
 pub returns-in-No : goal.returns-in-No
 returns-in-No c =
     let Turn : Answer → Type 0 = λ r. let last = c.graph_ready-found.new.1.1 in GraphReady c.loop-k.k (next_of c.args.l.now c.loop-k.at) r c.loop-k.heads c.loop-k.rows last.0 last.1.0 in
-    readying_no c.loop-k.invariant.0 c.loop-k-test.true _ (subst (Turn c) c.in-No.is c.graph_ready-found.ensures)
+    readying_no c.loop-k.invariant.0 c.loop-k-test.true _ (subst Turn c.in-No.is c.graph_ready-found.ensures)
 
 pub stretch-at-requires : goal.stretch-at-requires
 stretch-at-requires c =
@@ -110,7 +110,7 @@ loop-k-preserved c =
     let pre = c.requires in
     let (w, room) = c.loop-k.invariant in
     let scratch = kept.1.1 in (
-      readying_turn w c.loop-k-test.true pre.0 pre.1 pre.3 kept.0 kept.1.0 (subst (Turn c) c.in-On.is c.graph_ready-found.ensures) c.stretch-at.ensures,
+      readying_turn w c.loop-k-test.true pre.0 pre.1 pre.3 kept.0 kept.1.0 (subst Turn c.in-On.is c.graph_ready-found.ensures) c.stretch-at.ensures,
       (
         scratch.0 ∙ room.0,
         scratch.1.0 ∙ room.1,

@@ -14,80 +14,80 @@ use Rattle.repeat.proofs.draw.draw.Goals as goal
 pub loop-c-init : goal.loop-c-init
 loop-c-init c =
     let drawn : Graph = graph_of c.args.actors c.args.input c.args.output c.args.channels.now in
-    (search rules, omega (arith, c.clear.auto.words, c.requires.1), refl, drawing_start (drawn c) c.clear.new.words c.args.between.now c.clear.ensures)
+    (search rules, omega (arith, c.clear.auto.words, c.requires.1), refl, drawing_start drawn c.clear.new.words c.args.between.now c.clear.ensures)
 
 pub overflow_mul-tail : goal.overflow_mul-tail
 overflow_mul-tail c =
     let drawn : Graph = graph_of c.args.actors c.args.input c.args.output c.args.channels.now in
-    let channel : Read drawn c.loop-c.c (seen c.at-e.result) = read (drawn c) c.loop-c.c (seen c.at-e.result) c.requires.0 (omega (arith, c.loop-c-test.true)) (sym c.at-e.ensures) in
+    let channel : Read drawn c.loop-c.c (seen c.at-e.result) = read drawn c.loop-c.c (seen c.at-e.result) c.requires.0 (omega (arith, c.loop-c-test.true)) (sym c.at-e.ensures) in
     let few : c.args.actors ≤ 64 = c.requires.0.actors in
-    omega (arith, (channel c).tail, few c)
+    omega (arith, channel.tail, few)
 
 pub overflow_add-tail : goal.overflow_add-tail
 overflow_add-tail c =
     let drawn : Graph = graph_of c.args.actors c.args.input c.args.output c.args.channels.now in
-    let channel : Read drawn c.loop-c.c (seen c.at-e.result) = read (drawn c) c.loop-c.c (seen c.at-e.result) c.requires.0 (omega (arith, c.loop-c-test.true)) (sym c.at-e.ensures) in
+    let channel : Read drawn c.loop-c.c (seen c.at-e.result) = read drawn c.loop-c.c (seen c.at-e.result) c.requires.0 (omega (arith, c.loop-c-test.true)) (sym c.at-e.ensures) in
     let few : c.args.actors ≤ 64 = c.requires.0.actors in
-    omega (arith, (channel c).tail, few c)
+    omega (arith, channel.tail, few)
 
 pub mark-requires : goal.mark-requires
 mark-requires c =
     let drawn : Graph = graph_of c.args.actors c.args.input c.args.output c.args.channels.now in
-    let channel : Read drawn c.loop-c.c (seen c.at-e.result) = read (drawn c) c.loop-c.c (seen c.at-e.result) c.requires.0 (omega (arith, c.loop-c-test.true)) (sym c.at-e.ensures) in
+    let channel : Read drawn c.loop-c.c (seen c.at-e.result) = read drawn c.loop-c.c (seen c.at-e.result) c.requires.0 (omega (arith, c.loop-c-test.true)) (sym c.at-e.ensures) in
     let few : c.args.actors ≤ 64 = c.requires.0.actors in
-    (omega (arith, (channel c).tail, c.loop-c.invariant.1), omega (arith, (channel c).head, few c))
+    (omega (arith, channel.tail, c.loop-c.invariant.1), omega (arith, channel.head, few))
 
 pub overflow_mul-head : goal.overflow_mul-head
 overflow_mul-head c =
     let drawn : Graph = graph_of c.args.actors c.args.input c.args.output c.args.channels.now in
-    let channel : Read drawn c.loop-c.c (seen c.at-e.result) = read (drawn c) c.loop-c.c (seen c.at-e.result) c.requires.0 (omega (arith, c.loop-c-test.true)) (sym c.at-e.ensures) in
+    let channel : Read drawn c.loop-c.c (seen c.at-e.result) = read drawn c.loop-c.c (seen c.at-e.result) c.requires.0 (omega (arith, c.loop-c-test.true)) (sym c.at-e.ensures) in
     let few : c.args.actors ≤ 64 = c.requires.0.actors in
-    omega (arith, (channel c).head, few c)
+    omega (arith, channel.head, few)
 
 pub overflow_add-head : goal.overflow_add-head
 overflow_add-head c =
     let drawn : Graph = graph_of c.args.actors c.args.input c.args.output c.args.channels.now in
-    let channel : Read drawn c.loop-c.c (seen c.at-e.result) = read (drawn c) c.loop-c.c (seen c.at-e.result) c.requires.0 (omega (arith, c.loop-c-test.true)) (sym c.at-e.ensures) in
+    let channel : Read drawn c.loop-c.c (seen c.at-e.result) = read drawn c.loop-c.c (seen c.at-e.result) c.requires.0 (omega (arith, c.loop-c-test.true)) (sym c.at-e.ensures) in
     let few : c.args.actors ≤ 64 = c.requires.0.actors in
-    omega (arith, (channel c).head, few c)
+    omega (arith, channel.head, few)
 
 pub mark-requires-in-loop-c : goal.mark-requires-in-loop-c
 mark-requires-in-loop-c c =
     let drawn : Graph = graph_of c.args.actors c.args.input c.args.output c.args.channels.now in
-    let channel : Read drawn c.loop-c.c (seen c.at-e.result) = read (drawn c) c.loop-c.c (seen c.at-e.result) c.requires.0 (omega (arith, c.loop-c-test.true)) (sym c.at-e.ensures) in
+    let channel : Read drawn c.loop-c.c (seen c.at-e.result) = read drawn c.loop-c.c (seen c.at-e.result) c.requires.0 (omega (arith, c.loop-c-test.true)) (sym c.at-e.ensures) in
     let few : c.args.actors ≤ 64 = c.requires.0.actors in
     let long1 : length c.mark.new.words ≡ 3 * c.args.actors = c.mark.auto.words ∙ c.loop-c.invariant.1 in
-    (omega (arith, (channel c).head, long1 c), omega (arith, (channel c).tail, few c))
+    (omega (arith, channel.head, long1), omega (arith, channel.tail, few))
 
 pub overflow_mul-head-in-loop-c : goal.overflow_mul-head-in-loop-c
 overflow_mul-head-in-loop-c c =
     let drawn : Graph = graph_of c.args.actors c.args.input c.args.output c.args.channels.now in
-    let channel : Read drawn c.loop-c.c (seen c.at-e.result) = read (drawn c) c.loop-c.c (seen c.at-e.result) c.requires.0 (omega (arith, c.loop-c-test.true)) (sym c.at-e.ensures) in
+    let channel : Read drawn c.loop-c.c (seen c.at-e.result) = read drawn c.loop-c.c (seen c.at-e.result) c.requires.0 (omega (arith, c.loop-c-test.true)) (sym c.at-e.ensures) in
     let few : c.args.actors ≤ 64 = c.requires.0.actors in
-    omega (arith, (channel c).head, few c)
+    omega (arith, channel.head, few)
 
 pub overflow_add-head-in-loop-c : goal.overflow_add-head-in-loop-c
 overflow_add-head-in-loop-c c =
     let drawn : Graph = graph_of c.args.actors c.args.input c.args.output c.args.channels.now in
-    let channel : Read drawn c.loop-c.c (seen c.at-e.result) = read (drawn c) c.loop-c.c (seen c.at-e.result) c.requires.0 (omega (arith, c.loop-c-test.true)) (sym c.at-e.ensures) in
+    let channel : Read drawn c.loop-c.c (seen c.at-e.result) = read drawn c.loop-c.c (seen c.at-e.result) c.requires.0 (omega (arith, c.loop-c-test.true)) (sym c.at-e.ensures) in
     let few : c.args.actors ≤ 64 = c.requires.0.actors in
-    omega (arith, (channel c).head, few c)
+    omega (arith, channel.head, few)
 
 pub mark-requires-in-loop-c-2 : goal.mark-requires-in-loop-c-2
 mark-requires-in-loop-c-2 c =
     let drawn : Graph = graph_of c.args.actors c.args.input c.args.output c.args.channels.now in
-    let channel : Read drawn c.loop-c.c (seen c.at-e.result) = read (drawn c) c.loop-c.c (seen c.at-e.result) c.requires.0 (omega (arith, c.loop-c-test.true)) (sym c.at-e.ensures) in
+    let channel : Read drawn c.loop-c.c (seen c.at-e.result) = read drawn c.loop-c.c (seen c.at-e.result) c.requires.0 (omega (arith, c.loop-c-test.true)) (sym c.at-e.ensures) in
     let few : c.args.actors ≤ 64 = c.requires.0.actors in
     let long1 : length c.mark.new.words ≡ 3 * c.args.actors = c.mark.auto.words ∙ c.loop-c.invariant.1 in
     let long2 : length c.mark-in-loop-c.new.words ≡ 3 * c.args.actors = c.mark-in-loop-c.auto.words ∙ long1 in
-    (omega (arith, (channel c).head, long2 c), omega (arith, (channel c).tail, few c))
+    (omega (arith, channel.head, long2), omega (arith, channel.tail, few))
 
 pub with-back-requires : goal.with-back-requires
 with-back-requires c =
     let drawn : Graph = graph_of c.args.actors c.args.input c.args.output c.args.channels.now in
-    let channel : Read drawn c.loop-c.c (seen c.at-e.result) = read (drawn c) c.loop-c.c (seen c.at-e.result) c.requires.0 (omega (arith, c.loop-c-test.true)) (sym c.at-e.ensures) in
+    let channel : Read drawn c.loop-c.c (seen c.at-e.result) = read drawn c.loop-c.c (seen c.at-e.result) c.requires.0 (omega (arith, c.loop-c-test.true)) (sym c.at-e.ensures) in
     let few : c.args.actors ≤ 64 = c.requires.0.actors in
-    omega (arith, (channel c).head, few c)
+    omega (arith, channel.head, few)
 
 pub overflow_cast-between : goal.overflow_cast-between
 overflow_cast-between c =
@@ -97,7 +97,7 @@ overflow_cast-between c =
 pub overflow_mul-between : goal.overflow_mul-between
 overflow_mul-between c =
     let drawn : Graph = graph_of c.args.actors c.args.input c.args.output c.args.channels.now in
-    let channel : Read drawn c.loop-c.c (seen c.at-e.result) = read (drawn c) c.loop-c.c (seen c.at-e.result) c.requires.0 (omega (arith, c.loop-c-test.true)) (sym c.at-e.ensures) in
+    let channel : Read drawn c.loop-c.c (seen c.at-e.result) = read drawn c.loop-c.c (seen c.at-e.result) c.requires.0 (omega (arith, c.loop-c-test.true)) (sym c.at-e.ensures) in
     let few : c.args.actors ≤ 64 = c.requires.0.actors in
     let small : c.args.actors * c.at-e.result.tail + c.at-e.result.head < 4096 = place_small _ _ _ few channel.tail channel.head in
     omega (arith, small)
@@ -105,7 +105,7 @@ overflow_mul-between c =
 pub overflow_add-between : goal.overflow_add-between
 overflow_add-between c =
     let drawn : Graph = graph_of c.args.actors c.args.input c.args.output c.args.channels.now in
-    let channel : Read drawn c.loop-c.c (seen c.at-e.result) = read (drawn c) c.loop-c.c (seen c.at-e.result) c.requires.0 (omega (arith, c.loop-c-test.true)) (sym c.at-e.ensures) in
+    let channel : Read drawn c.loop-c.c (seen c.at-e.result) = read drawn c.loop-c.c (seen c.at-e.result) c.requires.0 (omega (arith, c.loop-c-test.true)) (sym c.at-e.ensures) in
     let few : c.args.actors ≤ 64 = c.requires.0.actors in
     let small : c.args.actors * c.at-e.result.tail + c.at-e.result.head < 4096 = place_small _ _ _ few channel.tail channel.head in
     omega (arith, small)
@@ -113,7 +113,7 @@ overflow_add-between c =
 pub bounds-between-actors : goal.bounds-between-actors
 bounds-between-actors c =
     let drawn : Graph = graph_of c.args.actors c.args.input c.args.output c.args.channels.now in
-    let channel : Read drawn c.loop-c.c (seen c.at-e.result) = read (drawn c) c.loop-c.c (seen c.at-e.result) c.requires.0 (omega (arith, c.loop-c-test.true)) (sym c.at-e.ensures) in
+    let channel : Read drawn c.loop-c.c (seen c.at-e.result) = read drawn c.loop-c.c (seen c.at-e.result) c.requires.0 (omega (arith, c.loop-c-test.true)) (sym c.at-e.ensures) in
     let inside : c.args.actors * c.at-e.result.tail + c.at-e.result.head < length c.loop-c.between = omega (arith, place_below c.args.actors c.at-e.result.tail c.at-e.result.head channel.tail channel.head, c.requires.2, c.loop-c.invariant.2) in
     inside
 
@@ -129,12 +129,12 @@ loop-c-smaller c =
 pub loop-c-preserved : goal.loop-c-preserved
 loop-c-preserved c =
     let drawn : Graph = graph_of c.args.actors c.args.input c.args.output c.args.channels.now in
-    let channel : Read drawn c.loop-c.c (seen c.at-e.result) = read (drawn c) c.loop-c.c (seen c.at-e.result) c.requires.0 (omega (arith, c.loop-c-test.true)) (sym c.at-e.ensures) in
+    let channel : Read drawn c.loop-c.c (seen c.at-e.result) = read drawn c.loop-c.c (seen c.at-e.result) c.requires.0 (omega (arith, c.loop-c-test.true)) (sym c.at-e.ensures) in
     let long1 : length c.mark.new.words ≡ 3 * c.args.actors = c.mark.auto.words ∙ c.loop-c.invariant.1 in
     let long2 : length c.mark-in-loop-c.new.words ≡ 3 * c.args.actors = c.mark-in-loop-c.auto.words ∙ long1 in
     let long3 : length c.mark-in-loop-c-2.new.words ≡ 3 * c.args.actors = c.mark-in-loop-c-2.auto.words ∙ long2 in
     let tokens : c.count-tokens.result ≡ c.at-e.result.tokens.n = c.count-tokens.ensures in
-    let e : Draws (drawn c) c.loop-c.c (seen c.at-e.result) c.loop-c.back c.with-back.result c.loop-c.words c.mark-in-loop-c-2.new.words c.loop-c.between (set c.loop-c.between (c.args.actors * c.at-e.result.tail + c.at-e.result.head) c.loop-c.c) =
+    let e : Draws drawn c.loop-c.c (seen c.at-e.result) c.loop-c.back c.with-back.result c.loop-c.words c.mark-in-loop-c-2.new.words c.loop-c.between (set c.loop-c.between (c.args.actors * c.at-e.result.tail + c.at-e.result.head) c.loop-c.c) =
     record {
       one = c.mark.new.words;
       two = c.mark-in-loop-c.new.words;
@@ -145,9 +145,9 @@ loop-c-preserved c =
       noted = refl;
     } in (
       omega (arith, c.loop-c-test.true),
-      long3 c,
+      long3,
       length-set c.loop-c.between _ _ ∙ c.loop-c.invariant.2,
-      drawing_turn c.requires.0 (omega (arith, c.loop-c-test.true)) (omega (arith, c.requires.2, c.loop-c.invariant.2)) (channel c) c.loop-c.invariant.3 e,
+      drawing_turn c.requires.0 (omega (arith, c.loop-c-test.true)) (omega (arith, c.requires.2, c.loop-c.invariant.2)) channel c.loop-c.invariant.3 e,
     )
 
 pub shape_of-words : goal.shape_of-words

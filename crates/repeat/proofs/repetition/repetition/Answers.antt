@@ -25,22 +25,22 @@ pub settle-requires : goal.settle-requires
 settle-requires c =
     let graph : Graph = let a = c.args in graph_of a.actors a.input a.output a.channels.now in
     let numbers : List ℕ = c.grow-grown.new.q in
-    let found : GrowAnswer graph Found numbers = subst (λ (r : Numbering). GrowAnswer (graph c) r (numbers c)) c.in-Found.is c.grow-grown.ensures in
+    let found : GrowAnswer graph Found numbers = subst (λ (r : Numbering). GrowAnswer graph r numbers) c.in-Found.is c.grow-grown.ensures in
     let p = c.requires in
-    (p.0, omega (arith, c.grow-grown.auto.q, p.2), (found c).0.bound, p.4)
+    (p.0, omega (arith, c.grow-grown.auto.q, p.2), found.0.bound, p.4)
 
 pub returns-then-settle : goal.returns-then-settle
 returns-then-settle c =
     let graph : Graph = let a = c.args in graph_of a.actors a.input a.output a.channels.now in
     let numbers : List ℕ = c.grow-grown.new.q in
-    let found : GrowAnswer graph Found numbers = subst (λ (r : Numbering). GrowAnswer (graph c) r (numbers c)) c.in-Found.is c.grow-grown.ensures in
-    let e = grown_equal (graph c) (numbers c) (found c).0 (found c).1 (decided_yes _ c.settle.result c.if-settle.true c.settle.ensures.0) in
+    let found : GrowAnswer graph Found numbers = subst (λ (r : Numbering). GrowAnswer graph r numbers) c.in-Found.is c.grow-grown.ensures in
+    let e = grown_equal graph numbers found.0 found.1 (decided_yes _ c.settle.result c.if-settle.true c.settle.ensures.0) in
     (e.0, e.1, c.settle.ensures.1 c.if-settle.true)
 
 pub returns : goal.returns
 returns c =
     let graph : Graph = let a = c.args in graph_of a.actors a.input a.output a.channels.now in
     let numbers : List ℕ = c.grow-grown.new.q in
-    let found : GrowAnswer graph Found numbers = subst (λ (r : Numbering). GrowAnswer (graph c) r (numbers c)) c.in-Found.is c.grow-grown.ensures in
-    grown_unequal (graph c) (numbers c) (found c).0 (found c).1 c.requires.0.sound (decided_no _ c.settle.result c.if-settle.false c.settle.ensures.0)
+    let found : GrowAnswer graph Found numbers = subst (λ (r : Numbering). GrowAnswer graph r numbers) c.in-Found.is c.grow-grown.ensures in
+    grown_unequal graph numbers found.0 found.1 c.requires.0.sound (decided_no _ c.settle.result c.if-settle.false c.settle.ensures.0)
 

@@ -19,7 +19,7 @@ use Rattle.repeat.proofs.repetition.settle.Goals as goal
 pub loop-c-init : goal.loop-c-init
 loop-c-init c =
     let graph : Graph = graph_of c.args.actors c.args.input c.args.output c.args.channels.now in
-    (search rules, search rules, settling_start (graph c) _ c.clear.new.words c.clear.ensures)
+    (search rules, search rules, settling_start graph _ c.clear.new.words c.clear.ensures)
 
 pub moved-requires : goal.moved-requires
 moved-requires c =
@@ -44,7 +44,7 @@ returns-then-put-count c =
 pub mark-requires : goal.mark-requires
 mark-requires c =
     let room : length c.loop-c.awaits ≡ length c.args.awaits.now = c.loop-c.invariant.0 ∙ c.clear.auto.words in
-    (omega (arith, room c, c.requires.3, c.read-e.ensures.head), omega (arith, c.requires.0.actors, c.read-e.ensures.tail))
+    (omega (arith, room, c.requires.3, c.read-e.ensures.head), omega (arith, c.requires.0.actors, c.read-e.ensures.tail))
 
 pub overflow_add-c : goal.overflow_add-c
 overflow_add-c c =
@@ -57,9 +57,9 @@ loop-c-preserved c =
     let products : (c.count-put.result ≡ c.count.result) ↔ Even graph (vector c.args.q.now) c.loop-c.c = let e = even graph c.loop-c.c (seen c.read-e.result) c.read-e.ensures.is (vector c.args.q.now) in let taken = c.count.ensures ∙ c.moved-in-loop-c.ensures in (λ h. e.0 (sym puts ∙ h ∙ taken), λ h. puts ∙ e.1 h ∙ sym taken) in
     let e = seen c.read-e.result in
     let q = vector c.args.q.now in
-    let flag = ap₂ {C = ℕ} (λ (c n : ℕ). cond (ltb c n) 1 0) c.count-in-loop-c.ensures (c.enough.ensures q (puts c)) in
+    let flag = ap₂ {C = ℕ} (λ (c n : ℕ). cond (ltb c n) 1 0) c.count-in-loop-c.ensures (c.enough.ensures q puts) in
     let marked : Marked e.head e.tail (cond (ltb e.tokens (enough e q)) 1 0) c.loop-c.awaits c.mark.new.words = subst (λ (b : ℕ). Marked e.head e.tail b c.loop-c.awaits c.mark.new.words) flag c.mark.ensures in
-    (c.mark.auto.words ∙ c.loop-c.invariant.0, omega (arith, c.loop-c-test.true), settling_turn e c.loop-c.invariant.2 c.read-e.ensures.is ((products c).0 c.if-put-count.false) marked)
+    (c.mark.auto.words ∙ c.loop-c.invariant.0, omega (arith, c.loop-c-test.true), settling_turn e c.loop-c.invariant.2 c.read-e.ensures.is (products.0 c.if-put-count.false) marked)
 
 pub shape_of-awaits : goal.shape_of-awaits
 shape_of-awaits c =

@@ -24,13 +24,13 @@ returns-in-Refused c =
 pub returns-in-Refused-prepared : goal.returns-in-Refused-prepared
 returns-in-Refused-prepared c =
     let held : Unpacks c.args.s.now c.in-Wrote.n c.sheet-unpacked.new.list = unpack_writes _ _ refl c.sheet-unpacked.ensures.0 c.sheet-unpacked.ensures.1 c.in-Wrote.is in
-    let u = held c in
+    let u = held in
     (refused _, sheet_as_list _ u (refused_lines _ _ _ c.list-prepared.ensures c.in-Refused-prepared.is), refl, refl)
 
 pub returns-in-Ready : goal.returns-in-Ready
 returns-in-Ready c =
     let held : Unpacks c.args.s.now c.in-Wrote.n c.sheet-unpacked.new.list = unpack_writes _ _ refl c.sheet-unpacked.ensures.0 c.sheet-unpacked.ensures.1 c.in-Wrote.is in
-    let u = held c in
+    let u = held in
     let p = c.enum_told-1.given in
     let (js, lines) = ready_lines _ _ _ c.list-prepared.ensures p.1 in
     let F = p.0.0.n in

@@ -21,17 +21,17 @@ returns-then-heads-i c =
 pub overflow_add-at : goal.overflow_add-at
 overflow_add-at c =
     let there : 96 * c.args.graph + c.args.actor + 64 < length c.args.rows.now = let a = c.args in actor_there a.graph a.actor a.k c.if-n-graph.false c.if-heads-i.false c.requires in
-    omega (arith, there, c.well-formed.1.1.0)
+    omega (arith, there, c.well_formed.1.1.0)
 
 pub overflow_add-at-in-Within : goal.overflow_add-at-in-Within
 overflow_add-at-in-Within c =
     let there : 96 * c.args.graph + c.args.actor + 64 < length c.args.rows.now = let a = c.args in actor_there a.graph a.actor a.k c.if-n-graph.false c.if-heads-i.false c.requires in
-    omega (arith, there, c.well-formed.1.1.0)
+    omega (arith, there, c.well_formed.1.1.0)
 
 pub offset_bounds-rows-at : goal.offset_bounds-rows-at
 offset_bounds-rows-at c =
     let there : 96 * c.args.graph + c.args.actor + 64 < length c.args.rows.now = let a = c.args in actor_there a.graph a.actor a.k c.if-n-graph.false c.if-heads-i.false c.requires in
-    omega (arith, there, c.well-formed.1.1.0)
+    omega (arith, there, c.well_formed.1.1.0)
 
 pub bounds-rows-at : goal.bounds-rows-at
 bounds-rows-at c =
@@ -41,12 +41,12 @@ bounds-rows-at c =
 pub overflow_add-at-in-Within-2 : goal.overflow_add-at-in-Within-2
 overflow_add-at-in-Within-2 c =
     let there : 96 * c.args.graph + c.args.actor + 64 < length c.args.rows.now = let a = c.args in actor_there a.graph a.actor a.k c.if-n-graph.false c.if-heads-i.false c.requires in
-    omega (arith, there, c.well-formed.1.1.0)
+    omega (arith, there, c.well_formed.1.1.0)
 
 pub offset_bounds-rows-at-in-Within : goal.offset_bounds-rows-at-in-Within
 offset_bounds-rows-at-in-Within c =
     let there : 96 * c.args.graph + c.args.actor + 64 < length c.args.rows.now = let a = c.args in actor_there a.graph a.actor a.k c.if-n-graph.false c.if-heads-i.false c.requires in
-    omega (arith, there, c.well-formed.1.1.0)
+    omega (arith, there, c.well_formed.1.1.0)
 
 pub bounds-rows-at-in-Within : goal.bounds-rows-at-in-Within
 bounds-rows-at-in-Within c =

@@ -31,5 +31,5 @@ returns c =
     let a = c.args in
     listed_wrote a.graph _ numbers _ (omega arith) (λ js st. column_count a.graph a.room numbers c.requires.1 column (omega arith) js st)
     (search rules)
-    (λ js st. c.copy.ensures ∙ ap (λ (xs : List ℕ). xs ++ drop (get_or a.heads.now (3 * a.graph + 2) 0) a.numbers-1.now) (column_is a.graph a.room numbers c.requires.1 column (omega arith) js st))
+    (λ js st. c.copy.ensures ∙ ap (λ (xs : List ℕ). xs ++ drop (get_or a.heads.now (3 * a.graph + 2) 0) a.numbers.now) (column_is a.graph a.room numbers c.requires.1 column (omega arith) js st))
 

@@ -41,5 +41,5 @@ returns c =
     listed_wrote a.graph _ task_list _ (omega arith)
     (λ js st. count.ensures ∙ ap length (tasks_held a.graph st (omega arith))) c.if-numbers-count.false
     (λ js st. c.list.ensures ∙
-    ap₂ (λ (xs : List ℕ) (k : ℕ). xs ++ drop k a.numbers-1.now) (tasks_held a.graph st (omega arith)) (sym count.ensures))
+    ap₂ (λ (xs : List ℕ) (k : ℕ). xs ++ drop k a.numbers.now) (tasks_held a.graph st (omega arith)) (sym count.ensures))
 

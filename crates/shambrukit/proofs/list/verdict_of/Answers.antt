@@ -15,7 +15,7 @@ slice_bounds-h-end c =
 pub weigh-requires : goal.weigh-requires
 weigh-requires c =
     let few : length (take (3 * c.args.n) c.args.heads.now) / 3 ≤ 8 = omega (arith, lent_graphs c.requires.1, c.requires.1.graphs.graphs) in
-    (lent_held c.requires.1, few c)
+    (lent_held c.requires.1, few)
 
 pub frame_load-load-requires : goal.frame_load-load-requires
 frame_load-load-requires c =
@@ -30,7 +30,7 @@ late-found-requires c =
     let few : length (take (3 * c.args.n) c.args.heads.now) / 3 ≤ 8 = omega (arith, lent_graphs c.requires.1, c.requires.1.graphs.graphs) in
     let within : c.frame_load-load.result.n ≤ c.args.frame.n = omega (arith, c.count.ensures, c.count-2.ensures, c.if-count.false) in
     let (js, st, framed) = c.requires in
-    ((lent_held st, lent_frame st framed, framed.1, c.frame_load-load.ensures, within), (c.weigh.ensures, omega (arith, few c)))
+    ((lent_held st, lent_frame st framed, framed.1, c.frame_load-load.ensures, within), (c.weigh.ensures, omega (arith, few)))
 
 pub returns-in-At : goal.returns-in-At
 returns-in-At c =
