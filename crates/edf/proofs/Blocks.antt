@@ -2,7 +2,7 @@
 use mathlib.Core.Path.{◌≡◌, ◌∙◌, ap, sym}
 use mathlib.Core.Logic.{⊎_elim, ◌↔◌}
 use Prim.Native.Nat.{ℕ, ◌+◌, ◌*◌, ◌-◌, ◌/◌, ◌<◌, ◌≤◌, ◌∣◌}
-use native.Mathlib.Nat.{sub-eq-zero_of_le, sub-add_cancel, eq-zero-or-pos, div-zero, zero-div, div-eq_of_lt, div-mul-le_self, div-le_self, add-div_right, add-mul-div_right, le-div_iff_mul-le, div-lt_iff_lt-mul, div-mul_cancel, le_of_lt, le_refl, le_trans, le_of_eq}
+use native.Mathlib.Nat.{sub-eq-zero_of_le, sub-add_cancel, zero-div, div-eq_of_lt, div-le_self, add-div_right, add-mul-div_right, le-div_iff_mul-le, div-lt_iff_lt-mul, div-mul_cancel, le_of_lt, le_trans, le_of_eq}
 use native.Mathlib.Omega.{arith}
 use borrow.Author.Tests.{lt-ltb, le-ltb}
 use Rattle.sdf.proofs.Numbers.{lt_or_ge, div_mono}

@@ -2,7 +2,7 @@
 use mathlib.Core.Path.{◌≡◌, ap, sym}
 use mathlib.Core.Logic.{◌⊎◌, inl, inr, ⊎_elim, ⊎_map, ◌↔◌}
 use Prim.Native.Nat.{ℕ, zero, suc, ◌+◌, ◌*◌, ◌-◌, ◌/◌, ◌%◌, ◌<◌, ◌≤◌}
-use native.Mathlib.Nat.{eq-or-lt_of_le, le_of_suc-le-suc, mul-le-mul_left, mul-le-mul_right, le_trans, le_of_eq, mod-lt, mod-add-div', pos_of_dvd_of_pos, le_refl, zero-mul, suc-mul, add-zero, add_assoc, sub-add_cancel, div-mul_cancel}
+use native.Mathlib.Nat.{eq-or-lt_of_le, le_of_suc-le-suc, mul-le-mul_left, mul-le-mul_right, le_trans, mod-lt, mod-add-div', pos_of_dvd_of_pos, le_refl, zero-mul, suc-mul, add-zero, add_assoc, sub-add_cancel, div-mul_cancel}
 use native.Mathlib.Omega.{arith}
 use Rattle.sdf.specs.Sum.{sum_to}
 use Rattle.sdf.specs.Skip.{fewest}

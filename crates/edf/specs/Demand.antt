@@ -1,5 +1,5 @@
 -- 01, Demand, Frame load and the verdict's lengths.
-use Rattle.std.specs.Prelude.{◌≡◌, ℕ, ◌+◌, ◌*◌, ◌/◌, ◌<◌, ◌≤◌}
+use Rattle.std.specs.Prelude.{ℕ, ◌*◌, ◌/◌, ◌<◌, ◌≤◌}
 use Rattle.sdf.specs.Sum.{sum_to}
 use Rattle.sdf.specs.Skip.{fewest}
 use Rattle.edf.specs.Arrivals.{due}

@@ -1,20 +1,20 @@
 -- The conditions of document 01 on a graph, each decided: it holds or it does not. On small closed graphs the decisions
 -- compute.
-use mathlib.Core.Path.{◌≡◌, refl}
+use mathlib.Core.Path.{◌≡◌}
 use mathlib.Core.Bool.{Bool, true, false}
 use mathlib.Core.Logic.{◌⊎◌, inl, inr, ⊎_swap}
-use mathlib.Core.List.{List, [], ◌∷◌, ◌++◌}
-use Prim.Native.Nat.{ℕ, suc, ◌-◌, ◌<◌, ◌≤◌}
-use native.Mathlib.Nat.{le_antisymm, le_refl}
+use mathlib.Core.List.{[]}
+use Prim.Native.Nat.{ℕ, suc, ◌<◌, ◌≤◌}
+use native.Mathlib.Nat.{le_antisymm}
 use native.Mathlib.Omega.{arith}
 use lib.Dec.{T}
 use Rattle.sdf.specs.Graph.{Graph, Sound, Reached}
 use Rattle.sdf.specs.Order.{State, initial, Enabled, removed, added, fire, after, Legal, firings, Lives, Deadlock, AtRest}
-use Rattle.sdf.specs.Balance.{AtMost, Repetition, Once}
+use Rattle.sdf.specs.Balance.{Repetition, Once}
 use Rattle.sdf.specs.Skip.{Skips}
 use Rattle.sdf.specs.Sum.{sum_to}
-use Rattle.sdf.proofs.Numbers.{lt_or_ge, eq_or_ne, chosen}
-use Rattle.sdf.proofs.Sum.{sum_mono, term_le_sum}
+use Rattle.sdf.proofs.Numbers.{lt_or_ge, eq_or_ne}
+use Rattle.sdf.proofs.Sum.{term_le_sum}
 use Rattle.sdf.proofs.Settle.{settle, first_fails}
 use Rattle.sdf.proofs.Runs.{Run, missing, go_on}
 use Rattle.sdf.proofs.Trial.{stuck}

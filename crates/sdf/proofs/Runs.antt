@@ -1,5 +1,5 @@
 -- An order on its way to counts q, and one firing more.
-use mathlib.Core.Path.{◌≡◌, refl}
+use mathlib.Core.Path.{refl}
 use mathlib.Core.List.{List, [], ◌∷◌, ◌++◌}
 use Prim.Native.Nat.{ℕ, ◌-◌, ◌<◌, ◌≤◌}
 use native.Mathlib.Nat.{le_refl}

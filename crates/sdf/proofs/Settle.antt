@@ -1,13 +1,13 @@
 -- Step until at rest: one law for the vectors and sets that document 01 asks for as the least or the greatest, with the
 -- change of one entry of a vector and the search for a place where something fails. On closed numbers they compute.
 use mathlib.Core.Path.{◌≡◌, refl, ap}
-use mathlib.Core.Bool.{Bool, true, false, cond}
+use mathlib.Core.Bool.{cond}
 use mathlib.Core.Logic.{◌⊎◌, inl, inr, ⊎_elim, ◌≢◌}
-use Prim.Native.Nat.{ℕ, zero, suc, ◌+◌, ◌<◌, ◌≤◌}
+use Prim.Native.Nat.{ℕ, zero, suc, ◌+◌, ◌<◌}
 use native.Mathlib.Nat.{lt-suc_self, le_step, lt_of_lt_of_le, le_of_suc-le-suc, eq-or-lt_of_le, not-suc-le-zero}
 use native.Mathlib.Omega.{arith}
-use lib.Dec.{eqb, ltb}
-use borrow.Author.Tests.{eq-eqb, ne_eqb, ltb-true, ltb-false}
+use lib.Dec.{eqb}
+use borrow.Author.Tests.{eq-eqb, ne_eqb}
 use Rattle.sdf.specs.Sum.{sum_to}
 use Rattle.sdf.proofs.Numbers.{eq_or_ne}
 use Rattle.sdf.proofs.Sum.{sum_ext}

@@ -1,13 +1,13 @@
 -- 01, Deadlock: where a run has stopped. A graph lives exactly if no counts short of the repetition numbers are such that
 -- every actor that is short waits for a channel; whole multiples, and a graph with fewer channels, live too.
-use mathlib.Core.Path.{◌≡◌, refl, sym, ◌∙◌, ap}
+use mathlib.Core.Path.{◌≡◌, refl, ◌∙◌, ap}
 use mathlib.Core.Logic.{◌⊎◌, inl, inr, ⊎_elim}
 use mathlib.Core.List.{List, [], ◌∷◌, ◌++◌, append_assoc}
-use Prim.Native.Nat.{ℕ, zero, suc, ◌+◌, ◌*◌, ◌-◌, ◌<◌, ◌≤◌}
-use native.Mathlib.Nat.{le_refl, le_antisymm, mul-le-mul_right}
+use Prim.Native.Nat.{ℕ, ◌+◌, ◌*◌, ◌<◌, ◌≤◌}
+use native.Mathlib.Nat.{le_antisymm, mul-le-mul_right}
 use native.Mathlib.Omega.{arith}
 use Rattle.sdf.specs.Graph.{Graph, Sound}
-use Rattle.sdf.specs.Order.{State, initial, Enabled, fire, after, Legal, firings, Fires, Lives}
+use Rattle.sdf.specs.Order.{State, initial, Enabled, fire, after, Legal, firings, Lives}
 use Rattle.sdf.specs.Balance.{AtMost}
 use Rattle.sdf.proofs.Numbers.{lt_or_ge, eq_or_ne, chosen, passed}
 use Rattle.sdf.proofs.Settle.{settle, first_fails}

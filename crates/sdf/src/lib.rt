@@ -1,3 +1,2 @@
 // No code: specs/ says what synchronous dataflow graphs mean, proofs/ what follows from it.
 #![tactic(auto)]
-

@@ -4,7 +4,7 @@ use mathlib.Core.Bool.{Bool, true, false, false≢true, true≢false}
 use mathlib.Core.Logic.{⊎_elim, ◌≢◌}
 use mathlib.Core.List.{List, [], ◌++◌}
 use Prim.Native.Nat.{ℕ, zero, suc, ◌+◌, ◌*◌, ◌-◌, ◌^◌, ◌<◌, ◌≤◌}
-use native.Mathlib.Nat.{le_refl, le_of_eq, mul-le-mul, eq_of_mul-eq-mul_left, pos_of_ne-zero, mul-le-mul_right}
+use native.Mathlib.Nat.{le_refl, le_of_eq, mul-le-mul, pos_of_ne-zero, mul-le-mul_right}
 use native.Mathlib.Numerals.{add-one}
 use native.Mathlib.Omega.{arith}
 use borrow.Author.Tests.{eq-eqb, ne_eqb}

@@ -28,4 +28,3 @@ pub returns : goal.returns
 returns c =
     rw (c.two.ensures.0, c.two-2.ensures.0)
     (big_endian_four c.args.s.now c.args.at)
-

@@ -1,7 +1,5 @@
 -- `graph_in_bytes`: fixed part, counts and rest, in their order.
 use native.Mathlib.Omega.{arith}
-use borrow.Author.Tests.{not-true, not-false}
-use borrow.Author.Rules.{rules}
 use Rattle.sheet.specs.Layout.{in_bytes}
 use Rattle.sheet.proofs.GraphLayout.{fixed_bytes}
 use Rattle.sheet.proofs.Walk.{told_bounds, told_cut, told_size, told_short, told_on}
@@ -34,4 +32,3 @@ returns-then-s-bytes_of c =
 pub returns : goal.returns
 returns c =
     told_on in_bytes (fixed_bytes 0) _ _ (omega arith) c.sized.ensures c.if-not-sized.false c.bytes_of.ensures c.if-s-bytes_of.false
-

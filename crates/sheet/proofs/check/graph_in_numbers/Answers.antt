@@ -1,7 +1,5 @@
 -- `graph_in_numbers`: fixed part, counts and rest, in their order.
 use native.Mathlib.Omega.{arith}
-use borrow.Author.Tests.{not-true, not-false}
-use borrow.Author.Rules.{rules}
 use Rattle.sheet.specs.Layout.{in_numbers}
 use Rattle.sheet.proofs.GraphLayout.{fixed_numbers}
 use Rattle.sheet.proofs.Walk.{told_bounds, told_cut, told_size, told_short, told_on}
@@ -34,4 +32,3 @@ returns-then-l-numbers_of c =
 pub returns : goal.returns
 returns c =
     told_on in_numbers (fixed_numbers 0) _ _ (omega arith) c.sized.ensures c.if-not-sized.false c.numbers_of.ensures c.if-l-numbers_of.false
-

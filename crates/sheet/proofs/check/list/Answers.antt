@@ -2,7 +2,6 @@
 use mathlib.Core.Path.{sym, ◌∙◌}
 use native.Mathlib.Omega.{arith}
 use lib.ListN.{get_or-eq_default}
-use borrow.Author.Rules.{rules}
 use Rattle.sheet.specs.Layout.{in_numbers}
 use Rattle.sheet.specs.Check.{check_list}
 use Rattle.sheet.proofs.Walk.{graphs_none, graphs_many, graphs_walk}
@@ -33,4 +32,3 @@ returns c =
 pub overflow_cast-n : goal.overflow_cast-n
 overflow_cast-n c =
     omega (arith, c.shared_slice_known-2-1.given 0)
-

@@ -5,7 +5,6 @@ use Prim.Native.Nat.{ℕ, ◌≤◌, ◌<◌}
 use native.Mathlib.Omega.{arith}
 use lib.ListN.{length, get_or, drop}
 use borrow.Author.Tests.{le-leb, lt-leb, eq-eqb, ne_eqb}
-use borrow.Author.Rules.{rules}
 use Rattle.sheet.specs.declared.Refusal.TheVariants.{Length, Version}
 use Rattle.sheet.specs.declared.Answer.TheVariants.{No}
 use Rattle.sheet.specs.Layout.{in_bytes}
@@ -67,4 +66,3 @@ pub returns-then-n-lt1 : goal.returns-then-n-lt1
 returns-then-n-lt1 c =
     let past : let s = c.args.s.now in check_sheet s ≡ check_graphs in_bytes (get_or s 3 0) (drop 4 s) = graphs _ c.if-s-lt4.false (sym c.two.ensures.0 ∙ c.if-two-s.false) c.if-s-ne1.false in
     sym (past ∙ graphs_none in_bytes _ _ c.if-n-lt1.true)
-

@@ -14,4 +14,3 @@ returns-then-actors c =
 pub returns : goal.returns
 returns c =
     simp (le-leb _ _ c.if-actors-lt1.false, le-leb _ _ c.if-actors.false, leb-zero)
-

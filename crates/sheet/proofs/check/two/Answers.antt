@@ -1,7 +1,6 @@
 -- `two`: a field of two bytes.
 use native.Mathlib.Omega.{arith}
 use Prim.Native.Nat.{◌+◌}
-use borrow.Author.Rules.{rules}
 use Rattle.sheet.proofs.Fields.{big_endian_two}
 use Rattle.sheet.proofs.check.two.Goals as goal
 
@@ -10,8 +9,7 @@ overflow_add-result-2 c =
     omega (arith, c.shared_slice_known-1.given c.args.at, c.shared_slice_known-2-1.given (c.args.at + 1))
 
 pub returns : goal.returns
-returns c =
-    (
+returns c = (
   big_endian_two c.args.s.now c.args.at,
   omega (arith, c.shared_slice_known-1.given c.args.at, c.shared_slice_known-2-1.given (c.args.at + 1)),
 )
@@ -27,4 +25,3 @@ overflow_mul-result c =
 pub overflow_cast-result-2 : goal.overflow_cast-result-2
 overflow_cast-result-2 c =
     omega (arith, c.shared_slice_known-2-1.given (c.args.at + 1))
-

@@ -1,11 +1,9 @@
 -- `walk_numbers`: graph by graph, the first walk of document 01.
 use mathlib.Core.Path.{sym}
-use Prim.Native.Nat.{◌-◌}
 use native.Mathlib.Omega.{arith}
-use borrow.Author.Rules.{rules}
 use Rattle.sheet.specs.Layout.{in_numbers}
 use Rattle.sheet.proofs.GraphLayout.{fixed_numbers}
-use Rattle.sheet.proofs.Walk.{Walking, Met, Stands, walking_start, walking_over, walking_end, met_no, met_on, met_turn}
+use Rattle.sheet.proofs.Walk.{Met, Stands, walking_start, walking_over, walking_end, met_no, met_on, met_turn}
 use Rattle.sheet.proofs.check.walk_numbers.Goals as goal
 
 pub loop-k-init : goal.loop-k-init
@@ -83,4 +81,3 @@ returns-then-at-l c =
 pub returns : goal.returns
 returns c =
     sym (walking_end c.loop-k.invariant c.loop-k-test.false c.if-at-l.false)
-

@@ -1,10 +1,8 @@
 -- `bytes_of`: a graph is 12 bytes, 4 for each actor and 8 for each channel.
 use mathlib.Core.Path.{sym}
-use borrow.Author.Rules.{rules}
 use Rattle.sheet.proofs.GraphLayout.{layout_bytes}
 use Rattle.sheet.proofs.layout.bytes_of.Goals as goal
 
 pub returns : goal.returns
 returns c =
     sym (layout_bytes c.args.actors c.args.channels)
-

@@ -1,12 +1,8 @@
 -- `range::channels`: one channel after the other.
-use borrow.Author.Rules.{rules}
-use Prim.Native.Nat.{◌-◌, ◌*◌}
 use lib.ListN.{length-take, length-drop}
 use native.Mathlib.Omega.{arith}
-use borrow.Author.Tests.{not-true, not-false}
 use Rattle.sheet.proofs.Parts.{sizes_numbers}
-use Rattle.sheet.specs.Layout.{channel_part}
-use Rattle.sheet.proofs.Ranges.{Ranging, ranging_start, ranging_no, ranging_turn, ranging_end}
+use Rattle.sheet.proofs.Ranges.{ranging_start, ranging_no, ranging_turn, ranging_end}
 use Rattle.sheet.proofs.range.channels.Goals as goal
 
 pub returns-then-not-channel : goal.returns-then-not-channel
@@ -29,4 +25,3 @@ channel-requires c =
 pub returns : goal.returns
 returns c =
     ranging_end c.loop-k.invariant c.loop-k-test.false
-

@@ -1,5 +1,4 @@
 -- `range::fixed`: four numbers within their bounds; the counts are.
-use borrow.Author.Rules.{rules}
 use native.Mathlib.Omega.{arith}
 use Rattle.sheet.proofs.Walk.{sized_gives}
 use Rattle.sheet.proofs.Ranges.{fixed_range}
@@ -17,4 +16,3 @@ overflow_cast-last c =
 pub overflow_sub-last : goal.overflow_sub-last
 overflow_sub-last c =
     (sized_gives c.args.l.now c.requires.0).some
-

@@ -1,9 +1,7 @@
 -- `range::graph`: the fixed part, the worst-case times, the channels.
-use borrow.Author.Rules.{rules}
 use mathlib.Core.Path.{sym, ◌∙◌}
 use lib.ListN.{length-take, length-drop}
 use native.Mathlib.Omega.{arith}
-use borrow.Author.Tests.{not-true, not-false}
 use Rattle.sheet.proofs.Parts.{sizes_numbers, Fitting, graph_fits}
 use Rattle.sheet.proofs.Ranges.{graph_fixed_no, graph_actors_no, graph_channels_are}
 use Rattle.sheet.proofs.range.graph.Goals as goal
@@ -86,4 +84,3 @@ pub overflow_cast-l : goal.overflow_cast-l
 overflow_cast-l c =
     let facts : let l = c.args.l.now in Fitting 6 1 5 6 1 5 l l = graph_fits sizes_numbers sizes_numbers _ _ (c.requires.0, c.requires.1, c.requires.1) in
     omega (arith, facts)
-

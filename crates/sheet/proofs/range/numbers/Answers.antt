@@ -2,7 +2,6 @@
 use mathlib.Core.Path.{sym, ◌∙◌}
 use native.Mathlib.Omega.{arith}
 use Rattle.sheet.proofs.Ranges.{Listed, list_on, numbers_no, numbers_ranges}
-use borrow.Author.Rules.{rules}
 use Rattle.sheet.proofs.range.numbers.Goals as goal
 
 pub returns : goal.returns
@@ -36,4 +35,3 @@ pub walk-requires : goal.walk-requires
 walk-requires c =
     let listed : Listed c.args.l.now = list_on _ (sym c.list-walked.ensures ∙ c.in-On.is) in
     listed.walk
-

@@ -29,4 +29,3 @@ overflow_cast-l-2 c =
 pub numbers_of-requires : goal.numbers_of-requires
 numbers_of-requires c =
     let z = sized_gives _ c.requires.0 in (z.actors, z.channels)
-

@@ -1,13 +1,10 @@
 -- `range::times`: one worst-case time after the other.
-use borrow.Author.Rules.{rules}
 use mathlib.Core.Path.{◌≡◌, ◌∙◌}
-use Prim.Native.Nat.{◌-◌}
 use native.Mathlib.Omega.{arith}
-use borrow.Author.Tests.{not-true, not-false}
 use Rattle.sheet.proofs.Parts.{sizes_numbers}
 use Rattle.sheet.specs.Layout.{actor_part}
 use Rattle.sheet.specs.Fields.{in_range}
-use Rattle.sheet.proofs.Ranges.{Ranging, ranging_start, ranging_no, ranging_turn, ranging_end, time_range, next_of}
+use Rattle.sheet.proofs.Ranges.{ranging_start, ranging_no, ranging_turn, ranging_end, time_range, next_of}
 use Rattle.sheet.proofs.range.times.Goals as goal
 
 pub returns-then-not-within : goal.returns-then-not-within
@@ -28,4 +25,3 @@ loop-k-init c =
 pub returns : goal.returns
 returns c =
     ranging_end c.loop-k.invariant c.loop-k-test.false
-

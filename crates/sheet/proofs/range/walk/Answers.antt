@@ -1,10 +1,7 @@
 -- `range::walk` meets its contract: answer 6 for the graphs one after the other. Before each turn the graphs from k on decide.
 use mathlib.Core.Path.{sym, ◌∙◌}
 use native.Mathlib.Omega.{arith}
-use borrow.Author.Tests.{not-true, not-false}
-use Prim.Native.Nat.{◌-◌}
-use borrow.Author.Rules.{rules}
-use Rattle.sheet.proofs.Ranges.{next_stands, next_turn, RangesWalk, ranges_start, ranges_no, ranges_turn, ranges_end}
+use Rattle.sheet.proofs.Ranges.{next_stands, next_turn, ranges_start, ranges_no, ranges_turn, ranges_end}
 use Rattle.sheet.proofs.range.walk.Goals as goal
 
 pub graph-requires : goal.graph-requires
@@ -34,4 +31,3 @@ loop-k-init c =
 pub returns : goal.returns
 returns c =
     ranges_end c.loop-k.invariant c.loop-k-test.false
-

@@ -1,10 +1,6 @@
 -- `range::walk` meets its contract: answer 6 for the graphs one after the other. Before each turn the graphs from k on decide.
-use mathlib.Core.Path.{sym, ◌∙◌}
-use native.Mathlib.Omega.{arith}
-use borrow.Author.Tests.{not-true, not-false}
 use Prim.Native.Nat.{◌-◌}
-use borrow.Author.Rules.{rules}
-use Rattle.sheet.proofs.Ranges.{next_stands, next_turn, RangesWalk, ranges_start, ranges_no, ranges_turn, ranges_end}
+use Rattle.sheet.proofs.Ranges.{RangesWalk}
 use Rattle.sheet.proofs.range.walk.Given as goal
 
 abbrev pub invariant-loop-k : goal.invariant-loop-k

@@ -1,10 +1,9 @@
 -- `link` builds the lists. The invariant: those of the channels passed.
-use Prim.Native.Nat.{◌≤◌, ◌<◌, ◌-◌, ◌/◌}
+use Prim.Native.Nat.{◌<◌, ◌/◌}
 use mathlib.Core.Path.{◌≡◌}
 use native.Mathlib.Omega.{arith}
 use borrow.Author.Rules.{rules}
 use lib.ListN.{length, length-set}
-use Rattle.trial.specs.Links.{end_of, Linked}
 use Rattle.trial.proofs.Chains.{linked_start, linked_turn}
 use Rattle.trial.proofs.links.link.Goals as goal
 
@@ -34,8 +33,7 @@ bounds-links-v-in-loop-c c =
 
 pub loop-c-preserved : goal.loop-c-preserved
 loop-c-preserved c =
-    let actor : c.number-v.result < c.args.actors = omega (arith, c.requires.1 c.loop-c.c c.loop-c-test.true, c.number-v.ensures) in
-    (
+    let actor : c.number-v.result < c.args.actors = omega (arith, c.requires.1 c.loop-c.c c.loop-c-test.true, c.number-v.ensures) in (
       omega arith,
       linked_turn c.loop-c.invariant.1 (omega arith) c.number-v.ensures actor,
       simp length-set c.loop-c.invariant.2,
@@ -45,4 +43,3 @@ pub returns : goal.returns
 returns c =
     let e : length c.args.channels.now / 5 ≡ c.loop-c.c = omega arith in
     rw e c.loop-c.invariant.1
-

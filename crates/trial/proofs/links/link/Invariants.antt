@@ -1,11 +1,8 @@
 -- `link` builds the lists. The invariant: those of the channels passed.
-use Prim.Native.Nat.{◌≤◌, ◌<◌, ◌-◌, ◌/◌}
+use Prim.Native.Nat.{◌≤◌, ◌-◌}
 use mathlib.Core.Path.{◌≡◌}
-use native.Mathlib.Omega.{arith}
-use borrow.Author.Rules.{rules}
-use lib.ListN.{length, length-set}
+use lib.ListN.{length}
 use Rattle.trial.specs.Links.{end_of, Linked}
-use Rattle.trial.proofs.Chains.{linked_start, linked_turn}
 use Rattle.trial.proofs.links.link.Given as goal
 
 abbrev pub invariant-loop-c : goal.invariant-loop-c

@@ -1,12 +1,9 @@
 -- `allowance` returns the greatest number of firings that all channels let the actor make in a row. The invariant: what those that
 -- the walk has passed let it make.
-use Prim.Native.Nat.{◌/◌, ◌-◌}
+use Prim.Native.Nat.{◌-◌}
 use native.Mathlib.Omega.{arith}
-use borrow.Author.Rules.{rules}
-use lib.ListN.{length, get_or}
-use Rattle.trial.specs.Flat.{channel_at, vector}
 use Rattle.trial.proofs.Chains.{walked_next}
-use Rattle.trial.proofs.Firing.{Allowing, allowing_start, allowing_asks, allowing_turn, allowing_end, allowing_none}
+use Rattle.trial.proofs.Firing.{allowing_start, allowing_asks, allowing_turn, allowing_end, allowing_none}
 use Rattle.trial.proofs.run.allowance.Goals as goal
 
 pub loop-at-init : goal.loop-at-init
@@ -32,4 +29,3 @@ loop-at-preserved c =
 pub returns : goal.returns
 returns c =
     allowing_end c.loop-at.invariant (omega arith)
-

@@ -1,12 +1,9 @@
 -- `allowance` returns the greatest number of firings that all channels let the actor make in a row. The invariant: what those that
 -- the walk has passed let it make.
-use Prim.Native.Nat.{◌/◌, ◌-◌}
-use native.Mathlib.Omega.{arith}
-use borrow.Author.Rules.{rules}
-use lib.ListN.{length, get_or}
+use Prim.Native.Nat.{◌/◌}
+use lib.ListN.{length}
 use Rattle.trial.specs.Flat.{channel_at, vector}
-use Rattle.trial.proofs.Chains.{walked_next}
-use Rattle.trial.proofs.Firing.{Allowing, allowing_start, allowing_asks, allowing_turn, allowing_end, allowing_none}
+use Rattle.trial.proofs.Firing.{Allowing}
 use Rattle.trial.proofs.run.allowance.Given as goal
 
 abbrev pub invariant-loop-at : goal.invariant-loop-at

@@ -1,5 +1,4 @@
 -- `fire` puts, which leaves enough to take.
-use native.Mathlib.Omega.{arith}
 use borrow.Author.Rules.{rules}
 use Rattle.trial.proofs.Firing.{put_enough, put_taken}
 use Rattle.trial.proofs.run.fire.Goals as goal
@@ -11,4 +10,3 @@ take-requires c =
 pub returns : goal.returns
 returns c =
     put_taken c.put.ensures c.take.ensures
-

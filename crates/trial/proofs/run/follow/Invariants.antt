@@ -1,10 +1,7 @@
 -- `follow` visits v and then along the hints. The invariant: w is an actor, and is visited next.
-use mathlib.Core.Path.{refl, ◌∙◌}
 use Prim.Native.Nat.{◌<◌}
-use native.Mathlib.Omega.{arith}
-use borrow.Author.Rules.{rules}
 use Rattle.trial.specs.Flat.{graph_of}
-use Rattle.trial.proofs.Toward.{Sized, sized_start, sized_again, run_visitable, Following, following_start, following_visit, following_again, following_underway, visited_fits, ahead, hint_less}
+use Rattle.trial.proofs.Toward.{Sized, Following, ahead}
 use Rattle.trial.proofs.run.follow.Given as goal
 
 abbrev pub invariant-loop-w : goal.invariant-loop-w

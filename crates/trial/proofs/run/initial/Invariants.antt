@@ -1,12 +1,8 @@
 -- `initial` puts the initial tokens on every channel.
-use mathlib.Core.Path.{◌≡◌, ap, ◌∙◌}
+use mathlib.Core.Path.{◌≡◌}
 use Prim.Native.Nat.{ℕ, ◌≤◌, ◌<◌, ◌-◌}
-use native.Mathlib.Omega.{arith}
-use borrow.Author.Rules.{rules}
-use lib.ListN.{length, get_or, length-set}
-use Rattle.sdf.specs.Graph.{Channel}
+use lib.ListN.{length, get_or}
 use Rattle.trial.specs.Flat.{channel_at}
-use Rattle.trial.proofs.Toward.{filled_more}
 use Rattle.trial.proofs.run.initial.Given as goal
 
 abbrev pub invariant-loop-c : goal.invariant-loop-c

@@ -1,15 +1,9 @@
 -- `lives` decides deadlock (01, Deadlock). Outer loop: a run toward q, with fewer firings still to come after each pass. Inner
 -- loop: a pass, in which either something has fired or no actor passed is ready.
-use mathlib.Core.Logic.{⊎_elim}
-use mathlib.Core.Path.{sym, ◌∙◌}
 use Prim.Native.Nat.{◌≤◌, ◌-◌}
-use native.Mathlib.Omega.{arith}
-use borrow.Author.Rules.{rules}
-use lib.ListN.{length-set}
-use borrow.Author.Tests.{not-true, not-false}
 use Rattle.trial.specs.Flat.{graph_of, vector}
 use Rattle.trial.specs.Trial.{Run}
-use Rattle.trial.proofs.Toward.{Pass, Sized, sized_start, run_start, pass_start, pass_fired, pass_still, Over, over_done, over_stuck, run_decides, sized_again}
+use Rattle.trial.proofs.Toward.{Pass, Sized}
 use Rattle.trial.proofs.run.lives.Given as goal
 
 abbrev pub invariant-loop-v : goal.invariant-loop-v

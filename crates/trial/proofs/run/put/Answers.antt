@@ -1,13 +1,11 @@
 -- `put` adds what the firings produce and makes heads ready. The invariant: the channels that the walk has passed are done.
-use mathlib.Core.Path.{◌≡◌, refl, ◌∙◌, ap}
-use Prim.Native.Nat.{◌+◌, ◌/◌, ◌-◌, ◌<◌}
+use mathlib.Core.Path.{refl, ◌∙◌, ap}
+use Prim.Native.Nat.{◌+◌, ◌-◌, ◌<◌}
 use native.Mathlib.Omega.{arith}
-use borrow.Author.Rules.{rules}
 use lib.ListN.{length}
 use Rattle.sdf.specs.Graph.{Channel}
-use Rattle.trial.specs.Flat.{channel_at}
 use Rattle.trial.proofs.Chains.{walked_next}
-use Rattle.trial.proofs.Firing.{Putting, putting_start, putting_fits, putting_turn, putting_end}
+use Rattle.trial.proofs.Firing.{putting_start, putting_fits, putting_turn, putting_end}
 use Rattle.trial.proofs.run.put.Goals as goal
 
 pub loop-at-init : goal.loop-at-init
@@ -23,11 +21,10 @@ plus-held-requires c =
     omega (arith, c.tokens.ensures, c.of.ensures, putting_fits c.loop-at.invariant.0 (omega arith) c.at-e.ensures c.requires.2)
 
 pub wake-requires : goal.wake-requires
-wake-requires c =
-    (
-      omega (arith, c.requires.2.ready_room (c.loop-at.at - 1) (omega arith), ap (λ (e : Channel). e.head) c.at-e.ensures, c.loop-at.invariant.0.size),
-      omega (arith, c.requires.3, c.loop-at.invariant.1),
-    )
+wake-requires c = (
+  omega (arith, c.requires.2.ready_room (c.loop-at.at - 1) (omega arith), ap (λ (e : Channel). e.head) c.at-e.ensures, c.loop-at.invariant.0.size),
+  omega (arith, c.requires.3, c.loop-at.invariant.1),
+)
 
 pub overflow_add-at : goal.overflow_add-at
 overflow_add-at c =
@@ -75,4 +72,3 @@ shape_of-ready c =
 pub shape_of-hints : goal.shape_of-hints
 shape_of-hints c =
     c.loop-at.invariant.1
-

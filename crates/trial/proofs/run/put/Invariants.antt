@@ -1,13 +1,9 @@
 -- `put` adds what the firings produce and makes heads ready. The invariant: the channels that the walk has passed are done.
-use mathlib.Core.Path.{◌≡◌, refl, ◌∙◌, ap}
-use Prim.Native.Nat.{◌+◌, ◌/◌, ◌-◌, ◌<◌}
-use native.Mathlib.Omega.{arith}
-use borrow.Author.Rules.{rules}
+use mathlib.Core.Path.{◌≡◌}
+use Prim.Native.Nat.{◌/◌}
 use lib.ListN.{length}
-use Rattle.sdf.specs.Graph.{Channel}
 use Rattle.trial.specs.Flat.{channel_at}
-use Rattle.trial.proofs.Chains.{walked_next}
-use Rattle.trial.proofs.Firing.{Putting, putting_start, putting_fits, putting_turn, putting_end}
+use Rattle.trial.proofs.Firing.{Putting}
 use Rattle.trial.proofs.run.put.Given as goal
 
 abbrev pub invariant-loop-at : goal.invariant-loop-at

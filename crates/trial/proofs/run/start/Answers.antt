@@ -1,9 +1,8 @@
 -- `start` leaves all of q still to come, with every actor ready.
 use mathlib.Core.Path.{◌≡◌}
-use Prim.Native.Nat.{◌≤◌, ◌-◌}
 use native.Mathlib.Omega.{arith}
 use borrow.Author.Rules.{rules}
-use Rattle.trial.proofs.Toward.{Starting, starting_start, starting_turn, starting_bound}
+use Rattle.trial.proofs.Toward.{starting_start, starting_turn, starting_bound}
 use Rattle.trial.proofs.run.start.Goals as goal
 
 pub loop-v-init : goal.loop-v-init
@@ -15,11 +14,10 @@ plus-rest-requires c =
     omega (arith, starting_bound c.loop-v.invariant.1 (λ w m. c.requires.1 w (omega arith)), c.requires.1 c.loop-v.v (omega arith))
 
 pub loop-v-preserved : goal.loop-v-preserved
-loop-v-preserved c =
-    (
-      omega arith,
-      starting_turn c.loop-v.invariant.1 (omega arith) (omega arith) (omega arith),
-    )
+loop-v-preserved c = (
+  omega arith,
+  starting_turn c.loop-v.invariant.1 (omega arith) (omega arith) (omega arith),
+)
 
 pub shape_of-left : goal.shape_of-left
 shape_of-left c =
@@ -33,4 +31,3 @@ pub returns : goal.returns
 returns c =
     let e : c.args.actors ≡ c.loop-v.v = omega arith in
     rw e c.loop-v.invariant.1.started
-

@@ -1,9 +1,6 @@
 -- `start` leaves all of q still to come, with every actor ready.
-use mathlib.Core.Path.{◌≡◌}
 use Prim.Native.Nat.{◌≤◌, ◌-◌}
-use native.Mathlib.Omega.{arith}
-use borrow.Author.Rules.{rules}
-use Rattle.trial.proofs.Toward.{Starting, starting_start, starting_turn, starting_bound}
+use Rattle.trial.proofs.Toward.{Starting}
 use Rattle.trial.proofs.run.start.Given as goal
 
 abbrev pub invariant-loop-v : goal.invariant-loop-v

@@ -1,12 +1,8 @@
 -- `take` takes off what the firings consume. The invariant: the channels that the walk has passed are done.
-use mathlib.Core.Path.{ap}
-use Prim.Native.Nat.{◌/◌, ◌-◌}
+use Prim.Native.Nat.{◌-◌}
 use native.Mathlib.Omega.{arith}
-use borrow.Author.Rules.{rules}
-use lib.ListN.{length}
-use Rattle.trial.specs.Flat.{channel_at}
 use Rattle.trial.proofs.Chains.{walked_next}
-use Rattle.trial.proofs.Firing.{Taking, taking_start, taking_enough, taking_turn}
+use Rattle.trial.proofs.Firing.{taking_start, taking_enough, taking_turn}
 use Rattle.trial.proofs.run.take.Goals as goal
 
 pub loop-at-init : goal.loop-at-init
@@ -42,4 +38,3 @@ returns c =
 pub shape_of-tokens : goal.shape_of-tokens
 shape_of-tokens c =
     c.loop-at.invariant.size
-

@@ -1,12 +1,8 @@
 -- `take` takes off what the firings consume. The invariant: the channels that the walk has passed are done.
-use mathlib.Core.Path.{ap}
-use Prim.Native.Nat.{◌/◌, ◌-◌}
-use native.Mathlib.Omega.{arith}
-use borrow.Author.Rules.{rules}
+use Prim.Native.Nat.{◌/◌}
 use lib.ListN.{length}
 use Rattle.trial.specs.Flat.{channel_at}
-use Rattle.trial.proofs.Chains.{walked_next}
-use Rattle.trial.proofs.Firing.{Taking, taking_start, taking_enough, taking_turn}
+use Rattle.trial.proofs.Firing.{Taking}
 use Rattle.trial.proofs.run.take.Given as goal
 
 abbrev pub invariant-loop-at : goal.invariant-loop-at

@@ -1,7 +1,6 @@
 -- `visit` carries every run on, by as many firings as the channels allow.
 use mathlib.Core.Path.{refl, ◌∙◌}
 use native.Mathlib.Omega.{arith}
-use borrow.Author.Rules.{rules}
 use lib.ListN.{length-set}
 use Rattle.trial.proofs.Toward.{visit_bounds, visit_none, visit_fireable, visit_still, visit_fires}
 use Rattle.trial.proofs.run.visit.Goals as goal
@@ -49,4 +48,3 @@ returns c =
           (c.count-2.ensures ∙ c.less.ensures);
       hints_unchanged = λ z. absurd (c.if-count-eq0.false (c.count.ensures ∙ z));
     }
-

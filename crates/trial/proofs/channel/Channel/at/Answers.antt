@@ -1,7 +1,6 @@
 -- `Channel::at` reads the five numbers of channel c.
 use Prim.Native.Nat.{◌+◌, ◌*◌}
 use native.Mathlib.Omega.{arith}
-use borrow.Author.Rules.{rules}
 use Rattle.trial.proofs.channel.Channel.at.Goals as goal
 
 pub overflow_cast-result : goal.overflow_cast-result
@@ -27,4 +26,3 @@ overflow_cast-channels-3 c =
 pub returns : goal.returns
 returns c =
     cc
-

@@ -1,6 +1,5 @@
 -- `Channel::times` returns the greatest number of firings that the channel lets its head make in a row.
 use native.Mathlib.Omega.{arith}
-use borrow.Author.Rules.{rules}
 use Rattle.trial.proofs.Firing.{times_all, times_none, times_own, times_lets, times_most}
 use Rattle.trial.proofs.channel.Channel.times.Goals as goal
 
@@ -19,4 +18,3 @@ returns-then-count-2 c =
 pub returns : goal.returns
 returns c =
     times_most (omega arith) (λ e. omega arith) (omega arith) c.firings.ensures (omega arith)
-

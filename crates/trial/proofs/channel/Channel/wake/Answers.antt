@@ -1,5 +1,4 @@
 -- `Channel::wake` makes the head ready where the channel holds enough for it.
-use borrow.Author.Rules.{rules}
 use Rattle.trial.proofs.Firing.{wake_head, wake_ready}
 use Rattle.trial.proofs.channel.Channel.wake.Goals as goal
 
@@ -10,4 +9,3 @@ returns-then-ready-head-ne0 c =
 pub returns : goal.returns
 returns c =
     wake_head c.requires.0
-
