@@ -12,7 +12,7 @@ use Rattle.sheet.specs.declared.Refusal.TheVariants.{Room}
 use Rattle.sheet.specs.declared.Answer.TheVariants.{On, No}
 use Rattle.sheet.specs.declared.Written.TheVariants.{Wrote, Refused}
 use Rattle.sheet.specs.Layout.{largest_sheet}
-use Rattle.sheet.specs.Fields.{to_bytes, bytes}
+use Rattle.sheet.specs.Fields.{to_bytes}
 use Rattle.sheet.specs.Forms.{graphs_bytes, packed, check_numbers, pack_answer}
 use Rattle.sheet.proofs.Fields.{to_bytes_length}
 use Rattle.sheet.proofs.Filling.{Filling, filling_set, filling_last}

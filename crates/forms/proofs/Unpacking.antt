@@ -10,7 +10,6 @@ use Rattle.sheet.specs.declared.Answer.TheVariants.{On, No}
 use Rattle.sheet.specs.declared.Refusal.{Refusal}
 use Rattle.sheet.specs.declared.Refusal.TheVariants.{Room}
 use Rattle.sheet.specs.declared.Written.TheVariants.{Wrote, Refused}
-use Rattle.sheet.specs.Fields.{numbers}
 use Rattle.sheet.specs.Check.{check_sheet}
 use Rattle.sheet.specs.Forms.{graphs_numbers, unpacked, unpack_answer}
 use Rattle.sheet.proofs.Walk.{part_is_drop}

@@ -1,6 +1,6 @@
 -- 01, Skip numbers: the vector that starts above every skip and is lowered channel by channel, and what it is when every channel
 -- is met.
-use mathlib.Core.Path.{◌≡◌, refl, sym, ap, ◌∙◌, subst, subst₂, subst⁻¹}
+use mathlib.Core.Path.{◌≡◌, refl, sym, ap, ◌∙◌, subst₂, subst⁻¹}
 use mathlib.Core.Logic.{⊎_elim, ◌≢◌}
 use mathlib.Core.Bool.{Bool, true, false, not, cond}
 use mathlib.Core.List.{List}

@@ -1,16 +1,15 @@
 -- The user's second demand at the public level: of a sheet or list that no answer of 1 to 12 refuses, unpacking and packing are
 -- inverse, and both forms come to the same judged graphs and frame.
-use mathlib.Core.Path.{◌≡◌, refl, sym, subst}
+use mathlib.Core.Path.{◌≡◌, sym, subst}
 use mathlib.Core.List.{List}
 use Prim.Native.Nat.{ℕ}
 use Rattle.sheet.specs.declared.Answer.{Answer}
-use Rattle.sheet.specs.declared.Answer.TheVariants.{On}
 use Rattle.sheet.specs.Fields.{Bytes}
 use Rattle.sheet.specs.Check.{check_sheet}
 use Rattle.sheet.specs.Forms.{packed, unpacked}
 use Rattle.sheet.proofs.Forms.{pack_unpacked, unpack_packed}
 use Rattle.ready.specs.Graphs.{Judged}
-use Rattle.ready.specs.Lines.{Outcome, ready, Checked, list_lines, sheet_lines}
+use Rattle.ready.specs.Lines.{ready, Checked, list_lines, sheet_lines}
 use Rattle.shambrukit.proofs.Minimum.{checked_on}
 use Rattle.shambrukit.proofs.Prepares.{numbers_on}
 

@@ -22,7 +22,7 @@ use Rattle.ready.specs.Lines.{refused, ready, list_lines}
 use Rattle.shambrukit.specs.Calls.{unless_written, whole}
 use Rattle.ready.specs.Rows.{Prepares}
 use Rattle.shambrukit.specs.Held.{Stand, Framed}
-use Rattle.shambrukit.proofs.Minimum.{Ready, list_gives, checked_on}
+use Rattle.shambrukit.proofs.Minimum.{list_gives, checked_on}
 
 -- The unpacked form l comes to judged graphs that stand in memory, and to the frame F.
 pub record ReadyHeld (l heads rows : List ℕ) (F : ℕ) : Type 0 where

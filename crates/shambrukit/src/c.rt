@@ -121,12 +121,7 @@ pub fn shambrukit_fewest(sheet: &[u8], graph: u64, actor: u64, k: u64) -> Result
     told(bytes::fewest(sheet, graph, actor, k))
 }
 
-pub fn shambrukit_fewest_list(
-    numbers: &[u32],
-    graph: u64,
-    actor: u64,
-    k: u64,
-) -> ResultNumbers
+pub fn shambrukit_fewest_list(numbers: &[u32], graph: u64, actor: u64, k: u64) -> ResultNumbers
     ensures { ListSays numbers.now (λ o. fewest_told o graph actor k) (result_numbers result) }
 {
     told(list::fewest(numbers, graph, actor, k))
@@ -138,11 +133,7 @@ pub fn shambrukit_repetition(sheet: &[u8], graph: u64, out: &mut [u64]) -> Resul
     wrote(bytes::repetition(sheet, graph, out))
 }
 
-pub fn shambrukit_repetition_list(
-    numbers: &[u32],
-    graph: u64,
-    out: &mut [u64],
-) -> ResultNumbers
+pub fn shambrukit_repetition_list(numbers: &[u32], graph: u64, out: &mut [u64]) -> ResultNumbers
     ensures { ListLends numbers.now (λ o. listed repetition_numbers o graph (length out.old)) (λ o. numbers_of repetition_numbers o graph) (result_numbers result) out.old out.new }
 {
     wrote(list::repetition(numbers, graph, out))
@@ -154,11 +145,7 @@ pub fn shambrukit_skips(sheet: &[u8], graph: u64, out: &mut [u64]) -> ResultNumb
     wrote(bytes::skips(sheet, graph, out))
 }
 
-pub fn shambrukit_skips_list(
-    numbers: &[u32],
-    graph: u64,
-    out: &mut [u64],
-) -> ResultNumbers
+pub fn shambrukit_skips_list(numbers: &[u32], graph: u64, out: &mut [u64]) -> ResultNumbers
     ensures { ListLends numbers.now (λ o. listed skip_numbers o graph (length out.old)) (λ o. numbers_of skip_numbers o graph) (result_numbers result) out.old out.new }
 {
     wrote(list::skips(numbers, graph, out))
@@ -170,11 +157,7 @@ pub fn shambrukit_tasks(sheet: &[u8], graph: u64, out: &mut [u64]) -> ResultNumb
     wrote(bytes::tasks(sheet, graph, out))
 }
 
-pub fn shambrukit_tasks_list(
-    numbers: &[u32],
-    graph: u64,
-    out: &mut [u64],
-) -> ResultNumbers
+pub fn shambrukit_tasks_list(numbers: &[u32], graph: u64, out: &mut [u64]) -> ResultNumbers
     ensures { ListLends numbers.now (λ o. listed task_list o graph (length out.old)) (λ o. numbers_of task_list o graph) (result_numbers result) out.old out.new }
 {
     wrote(list::tasks(numbers, graph, out))

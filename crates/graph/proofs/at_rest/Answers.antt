@@ -1,5 +1,4 @@
 -- `graph::at_rest` meets its contract: who is kept back by a channel may not fire.
-use borrow.Author.Rules.{rules}
 use Rattle.trial.specs.Flat.{graph_of}
 use Rattle.graph.proofs.Reaching.{rest_decides}
 use Rattle.graph.proofs.at_rest.Goals as goal
@@ -8,4 +7,3 @@ pub returns : goal.returns
 returns c =
     let a = c.args in
     rest_decides (graph_of a.actors a.input a.output a.channels.now) a.back c.with.result c.covers.result c.requires.1 c.with.ensures c.covers.ensures
-

@@ -2,8 +2,6 @@
 -- itself.
 use mathlib.Core.List.{List}
 use Prim.Native.Nat.{ℕ}
-use borrow.Author.Rules.{rules}
-use borrow.Author.Tests.{not-true, not-false}
 use Rattle.sdf.specs.Graph.{Graph}
 use Rattle.sets.proofs.Decided.{decided_yes, decided_no}
 use Rattle.trial.specs.Flat.{graph_of}
@@ -49,4 +47,3 @@ returns c =
     let all-to : AllTo graph graph.output = decided_yes (AllTo graph graph.output) c.to_output.result c.if-not-to_output.false c.to_output.ensures in
     let from = decided_yes (AllFrom graph graph.input) c.from_input.result c.if-not-from_input.false c.from_input.ensures in
     answer_unbalanced graph c.repetition-found.result numbers awaits c.repetition-found.ensures c.in-Unbalanced.is from all-to
-

@@ -4,8 +4,6 @@ use mathlib.Core.List.{List}
 use Prim.Native.Nat.{ℕ, ◌≤◌}
 use native.Mathlib.Omega.{arith}
 use lib.ListN.{length}
-use borrow.Author.Rules.{rules}
-use borrow.Author.Tests.{not-true, not-false}
 use Rattle.sets.proofs.Decided.{decided_yes, decided_no}
 use Rattle.sdf.specs.Graph.{Graph, Reached}
 use Rattle.sdf.specs.Order.{Lives}
@@ -20,7 +18,10 @@ pub balance-found-requires : goal.balance-found-requires
 balance-found-requires c =
     let s = c.requires in
     let d = c.draw-back in
-    ((s.0.0, d.ensures.0, c.unskipped-zero.ensures), (s.1.0.0, omega (arith, s.0.2, d.auto.1.1.1.1.1.0), s.1.0.2))
+    record {
+      drawn = (s.drawn.0, d.ensures.0, c.unskipped-zero.ensures);
+      actors_in_bounds = (s.actors_in_bounds.0, omega (arith, s.drawn.2, d.auto.between), s.actors_in_bounds.2);
+    }
 
 pub returns-in-Unreached : goal.returns-in-Unreached
 returns-in-Unreached c =
@@ -45,7 +46,7 @@ offset_bounds-q-input c =
 pub bounds-q-input : goal.bounds-q-input
 bounds-q-input c =
     let repetition : List ℕ = c.balance-found.new.q in
-    let room : c.args.actors ≤ length repetition = omega (arith, c.requires.actors_in_bounds.0.0, c.balance-found.auto.q) in
+    let room : c.args.actors ≤ length repetition = omega (arith, c.requires.actors_in_bounds.0, c.balance-found.auto.q) in
     omega (arith, c.requires.drawn.0.sound.input, room)
 
 pub returns-then-q-input-ne1 : goal.returns-then-q-input-ne1
@@ -64,7 +65,7 @@ offset_bounds-q-output c =
 pub bounds-q-output : goal.bounds-q-output
 bounds-q-output c =
     let repetition : List ℕ = c.balance-found.new.q in
-    let room : c.args.actors ≤ length repetition = omega (arith, c.requires.actors_in_bounds.0.0, c.balance-found.auto.q) in
+    let room : c.args.actors ≤ length repetition = omega (arith, c.requires.actors_in_bounds.0, c.balance-found.auto.q) in
     omega (arith, c.requires.drawn.0.sound.output, room)
 
 pub returns-then-q-output-ne1 : goal.returns-then-q-output-ne1
@@ -79,22 +80,18 @@ returns-then-q-output-ne1 c =
 pub lives-requires : goal.lives-requires
 lives-requires c =
     let repetition : List ℕ = c.balance-found.new.q in
-    let room : c.args.actors ≤ length repetition = omega (arith, c.requires.actors_in_bounds.0.0, c.balance-found.auto.q) in
+    let room : c.args.actors ≤ length repetition = omega (arith, c.requires.actors_in_bounds.0, c.balance-found.auto.q) in
     let graph : Graph = let a = c.args in graph_of a.actors a.input a.output a.channels.now in
     let awaits : List ℕ = c.balance-found.new.awaits in
     let Says : Numbering → Type 0 = λ r. BalanceAnswer graph r repetition awaits in
     let repeats : Reached graph × Repeats graph repetition × Awaits graph (vector repetition) (vector awaits) = subst Says c.in-Found.is c.balance-found.ensures in
     let s = c.requires in
-    let p = repeats in (
-      (s.0.0, p.1.repetition.balanced, p.2, omega (arith, s.1.0.2, c.balance-found.auto.awaits)),
-      (
-        (p.1.bound, room),
-        (
-          (s.1.0.3, s.1.0.1, s.1.1.0.0, omega (arith, s.1.1.0.1, c.balance-found.auto.met), s.1.1.0.2),
-          s.1.1.1,
-        ),
-      ),
-    )
+    let p = repeats in record {
+      drawn = (s.drawn.0, p.1.repetition.balanced, p.2, omega (arith, s.actors_in_bounds.2, c.balance-found.auto.awaits));
+      at_most = (p.1.bound, room);
+      channels_in_bounds = (s.actors_in_bounds.3, s.actors_in_bounds.1, s.channels_in_bounds.0, omega (arith, s.channels_in_bounds.1, c.balance-found.auto.met), s.channels_in_bounds.2);
+      channels_in_bounds_2 = s.channels_in_bounds_2;
+    }
 
 pub shape_of-words-then-not-lives : goal.shape_of-words-then-not-lives
 shape_of-words-then-not-lives c =
@@ -166,15 +163,15 @@ returns-then-not-at_rest c =
 pub skips-requires : goal.skips-requires
 skips-requires c =
     let repetition : List ℕ = c.balance-found.new.q in
-    let room : c.args.actors ≤ length repetition = omega (arith, c.requires.actors_in_bounds.0.0, c.balance-found.auto.q) in
+    let room : c.args.actors ≤ length repetition = omega (arith, c.requires.actors_in_bounds.0, c.balance-found.auto.q) in
     let graph : Graph = let a = c.args in graph_of a.actors a.input a.output a.channels.now in
     let awaits : List ℕ = c.balance-found.new.awaits in
     let Says : Numbering → Type 0 = λ r. BalanceAnswer graph r repetition awaits in
     let repeats : Reached graph × Repeats graph repetition × Awaits graph (vector repetition) (vector awaits) = subst Says c.in-Found.is c.balance-found.ensures in
     let s = c.requires in
     let p = repeats in record {
-      drawn = (s.0.0, p.0, room, omega (arith, s.1.0.1, c.lives.auto.share), p.1);
-      words = (c.draw-back.ensures.0, c.unskipped-zero.ensures, omega (arith, s.1.1.1.0, c.lives.auto.into));
+      drawn = (s.drawn.0, p.0, room, omega (arith, s.actors_in_bounds.1, c.lives.auto.share), p.1);
+      words = (c.draw-back.ensures.0, c.unskipped-zero.ensures, omega (arith, s.channels_in_bounds_2.0, c.lives.auto.into));
     }
 
 pub shape_of-q : goal.shape_of-q
@@ -304,4 +301,3 @@ shape_of-out c =
 pub shape_of-hints : goal.shape_of-hints
 shape_of-hints c =
     c.lives.auto.hints
-

@@ -1,7 +1,6 @@
 -- `copy` stores the five numbers of channel c in the place of channel d.
 use native.Mathlib.Omega.{arith}
 use lib.ListN.{length-set}
-use borrow.Author.Rules.{rules}
 use Rattle.knot.proofs.Keeping.{copied}
 use Rattle.knot.proofs.copy.Goals as goal
 
@@ -24,5 +23,4 @@ bounds-kept-to-5 c =
 pub returns : goal.returns
 returns c =
     let a = c.args in
-    copied a.channels.now a.auto.now a.c a.d (omega arith)
-
+    copied a.channels.now a.kept.now a.c a.d (omega arith)

@@ -1,8 +1,5 @@
 -- `core_of`. The invariant: a core; it is smaller after each turn.
 use native.Mathlib.Omega.{arith}
-use Rattle.sets.specs.Sets.{Below}
-use Rattle.trial.specs.Flat.{graph_of, vector}
-use Rattle.trial.specs.Knot.{Core}
 use Rattle.knot.proofs.Knots.{core_start, core_turn, wanted_below}
 use Rattle.knot.proofs.core_of.Goals as goal
 
@@ -26,4 +23,3 @@ pub loop-core-preserved : goal.loop-core-preserved
 loop-core-preserved c =
     let r = c.wanted-rest.ensures in
     (core_turn c.requires.drawn.0.sound c.requires.drawn.1 c.requires.drawn.2 c.loop-core.invariant.0 r, wanted_below r c.loop-core.invariant.1)
-

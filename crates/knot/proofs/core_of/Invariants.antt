@@ -1,9 +1,7 @@
 -- `core_of`. The invariant: a core; it is smaller after each turn.
-use native.Mathlib.Omega.{arith}
 use Rattle.sets.specs.Sets.{Below}
 use Rattle.trial.specs.Flat.{graph_of, vector}
 use Rattle.trial.specs.Knot.{Core}
-use Rattle.knot.proofs.Knots.{core_start, core_turn, wanted_below}
 use Rattle.knot.proofs.core_of.Given as goal
 
 abbrev pub invariant-loop-core : goal.invariant-loop-core

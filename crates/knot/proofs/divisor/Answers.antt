@@ -1,8 +1,7 @@
 -- `divisor` finds a number that divides both. The invariant: what divides the two numbers at hand divides a and b.
 use native.Mathlib.Nat.{mod-lt}
 use native.Mathlib.Omega.{arith}
-use borrow.Author.Rules.{rules}
-use Rattle.knot.proofs.Keeping.{Dividing, dividing_start, dividing_turn, dividing_end}
+use Rattle.knot.proofs.Keeping.{dividing_start, dividing_turn, dividing_end}
 use Rattle.knot.proofs.divisor.Goals as goal
 
 pub loop-y-smaller : goal.loop-y-smaller
@@ -20,4 +19,3 @@ returns c =
 pub loop-y-init : goal.loop-y-init
 loop-y-init c =
     dividing_start c.requires
-

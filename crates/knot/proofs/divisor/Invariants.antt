@@ -1,8 +1,5 @@
 -- `divisor` finds a number that divides both. The invariant: what divides the two numbers at hand divides a and b.
-use native.Mathlib.Nat.{mod-lt}
-use native.Mathlib.Omega.{arith}
-use borrow.Author.Rules.{rules}
-use Rattle.knot.proofs.Keeping.{Dividing, dividing_start, dividing_turn, dividing_end}
+use Rattle.knot.proofs.Keeping.{Dividing}
 use Rattle.knot.proofs.divisor.Given as goal
 
 abbrev pub invariant-loop-y : goal.invariant-loop-y

@@ -1,16 +1,9 @@
 -- `keep` copies the channels within the core. The invariant: of the channels passed, all of those are copied and no others.
-use mathlib.Core.Path.{◌≡◌, refl, ◌∙◌, ap}
-use mathlib.Core.Logic.{⊎_elim}
-use mathlib.Core.Bool.{true}
-use Prim.Native.Nat.{ℕ, ◌-◌, ◌/◌, ◌≤◌}
-use native.Mathlib.Omega.{arith}
+use mathlib.Core.Path.{◌≡◌}
+use Prim.Native.Nat.{◌-◌, ◌≤◌}
 use lib.ListN.{length}
-use borrow.Author.Rules.{rules}
-use Rattle.sets.specs.Sets.{has}
-use Rattle.sets.proofs.Decided.{decided_yes, decided_no}
 use Rattle.trial.specs.Flat.{graph_of, vector}
-use Rattle.trial.specs.Knot.{waits}
-use Rattle.knot.proofs.Keeping.{Keeping, keeping_start, keeping_skip, keeping_turn, keeping_end}
+use Rattle.knot.proofs.Keeping.{Keeping}
 use Rattle.knot.proofs.keep.Given as goal
 
 abbrev pub invariant-loop-c : goal.invariant-loop-c

@@ -1,8 +1,5 @@
 -- `ordered`. The invariant: who is not left has fired all of q wherever a run stops; with each pass that takes somebody out fewer are left.
 use native.Mathlib.Omega.{arith}
-use Rattle.sets.specs.Sets.{Below}
-use Rattle.trial.specs.Flat.{graph_of, vector}
-use Rattle.trial.specs.Knot.{Done}
 use Rattle.knot.proofs.Knots.{done_start}
 use Rattle.knot.proofs.ordered.Goals as goal
 
@@ -36,4 +33,3 @@ loop-actors-smaller c =
 pub loop-actors-preserved : goal.loop-actors-preserved
 loop-actors-preserved c =
     (c.pass-rest.ensures.0, c.pass-rest.ensures.1)
-

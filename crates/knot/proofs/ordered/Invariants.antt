@@ -1,9 +1,7 @@
 -- `ordered`. The invariant: who is not left has fired all of q wherever a run stops; with each pass that takes somebody out fewer are left.
-use native.Mathlib.Omega.{arith}
 use Rattle.sets.specs.Sets.{Below}
 use Rattle.trial.specs.Flat.{graph_of, vector}
 use Rattle.trial.specs.Knot.{Done}
-use Rattle.knot.proofs.Knots.{done_start}
 use Rattle.knot.proofs.ordered.Given as goal
 
 abbrev pub invariant-loop-actors : goal.invariant-loop-actors

@@ -1,14 +1,9 @@
 -- `pass`. The invariant: who is not in the rest has fired all of q wherever a run stops, and the rest is some of those left.
-use mathlib.Core.Logic.{⊎_elim}
-use Prim.Native.Nat.{◌-◌, ◌≤◌}
 use native.Mathlib.Nat.{le_refl, le_trans}
 use native.Mathlib.Omega.{arith}
-use borrow.Author.Rules.{rules}
-use Rattle.sets.specs.Sets.{Below}
-use Rattle.trial.specs.Flat.{graph_of, vector}
-use Rattle.trial.specs.Knot.{Done}
 use Rattle.knot.proofs.Knots.{released_done, released_below}
 use Rattle.knot.proofs.pass.Goals as goal
+use Rattle.knot.proofs.pass.Goals.{then-v-actors, else-v-actors}
 
 pub loop-i-init : goal.loop-i-init
 loop-i-init c =
@@ -41,13 +36,13 @@ overflow_add-i c =
 pub loop-i-preserved : goal.loop-i-preserved
 loop-i-preserved c =
     let inv = c.loop-i.invariant in
-    ⊎_elim
-    (λ w. let r = w.2.ensures in
-    rw w.3 (released_done c.requires.drawn.0.sound c.requires.drawn.1 c.requires.drawn.2 w.0.true inv.0 r, released_below r inv.1, le_trans r.fewer inv.2))
-    (λ w. rw w.1 inv)
-    c.if-v-actors.branch
+    elim c.if-v-actors.branch [
+      | then-v-actors w ↦
+          let r = w.release-rest.ensures in
+          rw w.rest-is (released_done c.requires.drawn.0.sound c.requires.drawn.1 c.requires.drawn.2 w.if-v-actors.true inv.0 r, released_below r inv.1, le_trans r.fewer inv.2)
+      | else-v-actors w ↦ rw w.rest-is inv
+    ]
 
 pub returns : goal.returns
 returns c =
     c.loop-i.invariant
-

@@ -1,13 +1,8 @@
 -- `pass`. The invariant: who is not in the rest has fired all of q wherever a run stops, and the rest is some of those left.
-use mathlib.Core.Logic.{⊎_elim}
 use Prim.Native.Nat.{◌-◌, ◌≤◌}
-use native.Mathlib.Nat.{le_refl, le_trans}
-use native.Mathlib.Omega.{arith}
-use borrow.Author.Rules.{rules}
 use Rattle.sets.specs.Sets.{Below}
 use Rattle.trial.specs.Flat.{graph_of, vector}
 use Rattle.trial.specs.Knot.{Done}
-use Rattle.knot.proofs.Knots.{released_done, released_below}
 use Rattle.knot.proofs.pass.Given as goal
 
 abbrev pub invariant-loop-i : goal.invariant-loop-i

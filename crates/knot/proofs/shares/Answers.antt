@@ -1,10 +1,9 @@
 -- `shares` divides the numbers of the core by one that divides them all. The invariant: the entries passed are so.
 use mathlib.Core.Path.{◌≡◌, ap}
-use Prim.Native.Nat.{ℕ, ◌*◌, ◌/◌, ◌-◌, ◌≤◌}
+use Prim.Native.Nat.{ℕ, ◌*◌, ◌/◌}
 use native.Mathlib.Omega.{arith}
 use borrow.Author.Rules.{rules}
-use Rattle.sets.specs.Sets.{has}
-use Rattle.sets.proofs.Vectors.{Filled, filled_start, filled_turn}
+use Rattle.sets.proofs.Vectors.{filled_start, filled_turn}
 use Rattle.trial.specs.Flat.{vector}
 use Rattle.knot.proofs.Keeping.{share_fits, shares_end}
 use Rattle.knot.proofs.shares.Goals as goal
@@ -21,7 +20,7 @@ pub overflow_mul-share : goal.overflow_mul-share
 overflow_mul-share c =
     let v = c.loop-v.v in
     let n = vector c.args.q.now v in
-    omega (arith, share_fits n c.args.core v, ap (λ (x : ℕ). n * x) c.has.ensures, c.shared_slice_known-in-loop-v-1.given v)
+    omega (arith, share_fits n c.args.core v, ap (λ (x : ℕ). n * x) c.has.ensures)
 
 pub nonzero_div-share : goal.nonzero_div-share
 nonzero_div-share c =
@@ -39,4 +38,3 @@ pub returns : goal.returns
 returns c =
     let e : c.loop-v.v ≡ c.args.actors = omega arith in
     shares_end c.args.actors c.unit-d.ensures (rw e at c.loop-v.invariant.1)
-

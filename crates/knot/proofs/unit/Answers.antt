@@ -2,10 +2,8 @@
 use mathlib.Core.Path.{refl}
 use native.Mathlib.Omega.{arith}
 use Prim.Native.Nat.{◌<◌}
-use borrow.Author.Rules.{rules}
 use Rattle.sets.proofs.Bits.{put_less}
-use Rattle.trial.specs.Flat.{vector}
-use Rattle.knot.proofs.Keeping.{Uniting, uniting_start, uniting_turn, uniting_end, unit_one}
+use Rattle.knot.proofs.Keeping.{uniting_start, uniting_turn, uniting_end, unit_one}
 use Rattle.knot.proofs.unit.Goals as goal
 
 pub offset_bounds-q-v : goal.offset_bounds-q-v
@@ -49,4 +47,3 @@ returns c =
 pub loop-todo-init : goal.loop-todo-init
 loop-todo-init c =
     uniting_start _ _ _
-

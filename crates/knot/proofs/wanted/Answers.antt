@@ -1,8 +1,6 @@
 -- `wanted` asks everybody of the set, one at a time.
-use borrow.Author.Rules.{rules}
 use Rattle.sets.proofs.Bits.{put_less}
-use Rattle.trial.specs.Flat.{vector}
-use Rattle.knot.proofs.Knots.{Wanting, wanting_start, wanting_turn, wanting_end}
+use Rattle.knot.proofs.Knots.{wanting_start, wanting_turn, wanting_end}
 use Rattle.knot.proofs.wanted.Goals as goal
 
 pub loop-todo-init : goal.loop-todo-init
@@ -29,4 +27,3 @@ loop-todo-preserved c =
 pub returns : goal.returns
 returns c =
     wanting_end c.loop-todo.invariant c.loop-todo-test.false c.common.ensures.0 c.common.ensures.1
-

@@ -4,7 +4,6 @@ use mathlib.Core.Logic.{◌≢◌}
 use Prim.Native.Nat.{ℕ, ◌*◌, ◌≤◌}
 use native.Mathlib.Nat.{mul-le-mul}
 use native.Mathlib.Omega.{arith}
-use borrow.Author.Rules.{rules}
 use Rattle.sdf.specs.Graph.{Channel, Graph}
 use Rattle.sets.specs.Sets.{has}
 use Rattle.trial.specs.Flat.{graph_of, vector}
@@ -75,4 +74,3 @@ returns c =
     within_asks graph q c.args.core c.args.c e c.count-2.result c.count-3.result c.at-e.ensures tail-in head_in
     c.count-2.ensures
     (c.count-3.ensures ∙ c.tokens.ensures ∙ ap (λ (x : ℕ). x * e.produce) c.of.ensures ∙ sym (enough_other e q c.if-tail-head.false))
-

@@ -1,5 +1,4 @@
 -- `pack::channel`: two bytes and three numbers of two bytes.
-use borrow.Author.Rules.{rules}
 use lib.ListN.{length-set}
 use mathlib.Core.Path.{◌∙◌}
 use native.Mathlib.Omega.{arith}
@@ -29,4 +28,3 @@ two-requires c =
 pub two-requires-2 : goal.two-requires-2
 two-requires-2 c =
     omega (arith, simp length-set at c.two.auto.out)
-

@@ -1,12 +1,8 @@
 -- `pack::count` meets its contract: the bytes of the graphs, added up graph by graph.
 use mathlib.Core.Path.{refl}
-use Prim.Native.Nat.{◌-◌}
 use native.Mathlib.Omega.{arith}
-use borrow.Author.Rules.{rules}
 use Rattle.sheet.proofs.Ranges.{next_stands, next_turn}
-use Rattle.sheet.specs.Layout.{in_numbers}
-use Rattle.sheet.specs.Forms.{graphs_bytes}
-use Rattle.forms.proofs.Writing.{made_bytes, Counting, counting_start, counting_turn, counting_end}
+use Rattle.forms.proofs.Writing.{made_bytes, counting_start, counting_turn, counting_end}
 use Rattle.forms.proofs.pack.count.Goals as goal
 
 pub stretch_bytes-sum-requires : goal.stretch_bytes-sum-requires
@@ -36,4 +32,3 @@ loop-k-init c =
 pub returns : goal.returns
 returns c =
     counting_end made_bytes c.loop-k.invariant c.loop-k-test.false
-

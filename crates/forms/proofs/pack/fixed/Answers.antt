@@ -1,5 +1,4 @@
 -- `pack::fixed`: four bytes and two numbers of four bytes.
-use borrow.Author.Rules.{rules}
 use lib.ListN.{length-set}
 use mathlib.Core.Path.{◌∙◌}
 use native.Mathlib.Omega.{arith}
@@ -33,4 +32,3 @@ four-requires c =
 pub four-requires-2 : goal.four-requires-2
 four-requires-2 c =
     omega (arith, simp length-set at c.four.auto.out)
-

@@ -2,7 +2,6 @@
 use Prim.Native.Nat.{◌+◌, ◌*◌}
 use native.Mathlib.Omega.{arith}
 use lib.ListN.{get_or, length-take, length-drop}
-use borrow.Author.Rules.{rules}
 use Rattle.sheet.proofs.Parts.{packs, sizes_bytes, sizes_numbers, Fitting, graph_fits, graph_written}
 use Rattle.forms.proofs.pack.graph.Goals as goal
 
@@ -106,4 +105,3 @@ pub slice_bounds-channels-start-2 : goal.slice_bounds-channels-start-2
 slice_bounds-channels-start-2 c =
     let facts : Fitting 6 1 5 12 4 8 c.args.l.now c.args.out.now = graph_fits sizes_numbers sizes_bytes _ _ c.requires in
     omega (arith, facts)
-

@@ -1,12 +1,8 @@
 -- `pack::graphs` meets its contract: the bytes of the graphs, written one graph after the other.
 use mathlib.Core.Path.{refl}
-use Prim.Native.Nat.{◌-◌}
 use native.Mathlib.Omega.{arith}
-use borrow.Author.Rules.{rules}
 use Rattle.sheet.proofs.Ranges.{next_stands, next_turn}
-use Rattle.sheet.specs.Layout.{in_numbers}
-use Rattle.sheet.specs.Forms.{graphs_bytes}
-use Rattle.forms.proofs.Writing.{made_bytes, Writing, writing_start, writing_graph, writing_turn, writing_end}
+use Rattle.forms.proofs.Writing.{made_bytes, writing_start, writing_graph, writing_turn, writing_end}
 use Rattle.forms.proofs.pack.graphs.Goals as goal
 
 pub graph-requires : goal.graph-requires
@@ -44,4 +40,3 @@ shape_of-out c =
 pub returns : goal.returns
 returns c =
     writing_end made_bytes c.loop-k.invariant c.loop-k-test.false
-

@@ -1,12 +1,8 @@
 -- `pack::graphs` meets its contract: the bytes of the graphs, written one graph after the other.
-use mathlib.Core.Path.{refl}
 use Prim.Native.Nat.{◌-◌}
-use native.Mathlib.Omega.{arith}
-use borrow.Author.Rules.{rules}
-use Rattle.sheet.proofs.Ranges.{next_stands, next_turn}
 use Rattle.sheet.specs.Layout.{in_numbers}
 use Rattle.sheet.specs.Forms.{graphs_bytes}
-use Rattle.forms.proofs.Writing.{made_bytes, Writing, writing_start, writing_graph, writing_turn, writing_end}
+use Rattle.forms.proofs.Writing.{Writing}
 use Rattle.forms.proofs.pack.graphs.Given as goal
 
 abbrev pub invariant-loop-k : goal.invariant-loop-k

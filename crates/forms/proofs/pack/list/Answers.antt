@@ -9,7 +9,6 @@ use Rattle.sheet.proofs.Filling.{Filling}
 use Rattle.sheet.proofs.Forms.{numbers_on}
 use Rattle.sheet.proofs.Ranges.{Listed, listed}
 use Rattle.forms.proofs.Packing.{body, pack_no, Counted, pack_small, pack_room, pack_wrote, pack_head, pack_graphs}
-use borrow.Author.Rules.{rules}
 use Rattle.forms.proofs.pack.list.Goals as goal
 
 pub returns-in-No : goal.returns-in-No
@@ -24,7 +23,7 @@ graphs-requires c =
     let passed : check_numbers c.args.l.now ≡ On = sym c.numbers-checked.ensures ∙ c.in-On.is in
     let graphs-of : Listed c.args.l.now = listed _ (numbers_on _ passed).0 in
     let counted : Counted c.args.l.now (4 + c.count-all.result) = record { on = passed; count = ap (λ (n : ℕ). 4 + n) c.count-all.ensures } in
-    (graphs-of.walk, simp (length-take, length-drop, length-set) (omega (arith, counted.count-all)))
+    (graphs-of.walk, simp (length-take, length-drop, length-set) (omega (arith, counted.count)))
 
 pub shape_of-out : goal.shape_of-out
 shape_of-out c =
@@ -38,17 +37,16 @@ returns c =
     let passed : check_numbers c.args.l.now ≡ On = sym c.numbers-checked.ensures ∙ c.in-On.is in
     let counted : Counted c.args.l.now (4 + c.count-all.result) = record { on = passed; count = ap (λ (n : ℕ). 4 + n) c.count-all.ensures } in
     let head : let a = c.args in Filling a.out.now (set (set c.two.new.out 2 1) 3 (get_or a.l.now 0 0)) (packed a.l.now) (body a.l.now) 4 = pack_head counted _ _ c.if-out-all.false c.two.ensures in
-    (pack_wrote counted _ c.if-out-all.false, (pack_graphs counted c.if-out-all.false head c.graphs.ensures).1)
+    record {
+      answer = pack_wrote counted _ c.if-out-all.false;
+      memory = (pack_graphs counted c.if-out-all.false head c.graphs.ensures).1;
+    }
 
 pub bounds-l-0 : goal.bounds-l-0
 bounds-l-0 c =
     let passed : check_numbers c.args.l.now ≡ On = sym c.numbers-checked.ensures ∙ c.in-On.is in
     let graphs-of : Listed c.args.l.now = listed _ (numbers_on _ passed).0 in
     graphs-of.inside
-
-pub overflow_cast-n : goal.overflow_cast-n
-overflow_cast-n c =
-    omega (arith, c.shared_slice_known-2-1.given 0)
 
 pub slice_bounds-count-count : goal.slice_bounds-count-count
 slice_bounds-count-count c =
@@ -78,7 +76,7 @@ pub returns-then-out-all : goal.returns-then-out-all
 returns-then-out-all c =
     let passed : check_numbers c.args.l.now ≡ On = sym c.numbers-checked.ensures ∙ c.in-On.is in
     let counted : Counted c.args.l.now (4 + c.count-all.result) = record { on = passed; count = ap (λ (n : ℕ). 4 + n) c.count-all.ensures } in
-    (pack_room counted _ c.if-out-all.true, refl)
+    record { answer = pack_room counted _ c.if-out-all.true; memory = refl }
 
 pub overflow_cast-all : goal.overflow_cast-all
 overflow_cast-all c =
@@ -115,4 +113,3 @@ slice_bounds-graphs-count-2 c =
 pub slice_bounds-graphs-start-2 : goal.slice_bounds-graphs-start-2
 slice_bounds-graphs-start-2 c =
     simp length-set (omega arith)
-

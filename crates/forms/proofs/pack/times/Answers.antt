@@ -1,11 +1,8 @@
 -- `pack::times`: one worst-case time after the other.
 use lib.ListN.{length-take, length-drop}
-use borrow.Author.Rules.{rules}
-use Prim.Native.Nat.{◌-◌, ◌*◌}
+use Prim.Native.Nat.{◌*◌}
 use native.Mathlib.Omega.{arith}
-use Rattle.sheet.proofs.Parts.{Parts, packs, sizes_bytes, sizes_numbers, parts_start, parts_turn, parts_end}
-use Rattle.sheet.specs.Layout.{actor_part}
-use Rattle.sheet.specs.Fields.{bytes}
+use Rattle.sheet.proofs.Parts.{packs, sizes_bytes, sizes_numbers, parts_start, parts_turn, parts_end}
 use Rattle.forms.proofs.pack.times.Goals as goal
 
 pub loop-k-preserved : goal.loop-k-preserved
@@ -28,4 +25,3 @@ time-requires c =
 pub shape_of-out : goal.shape_of-out
 shape_of-out c =
     c.loop-k.invariant.kept
-

@@ -1,9 +1,6 @@
 -- `pack::times`: one worst-case time after the other.
-use lib.ListN.{length-take, length-drop}
-use borrow.Author.Rules.{rules}
 use Prim.Native.Nat.{◌-◌, ◌*◌}
-use native.Mathlib.Omega.{arith}
-use Rattle.sheet.proofs.Parts.{Parts, packs, sizes_bytes, sizes_numbers, parts_start, parts_turn, parts_end}
+use Rattle.sheet.proofs.Parts.{Parts}
 use Rattle.sheet.specs.Layout.{actor_part}
 use Rattle.sheet.specs.Fields.{bytes}
 use Rattle.forms.proofs.pack.times.Given as goal

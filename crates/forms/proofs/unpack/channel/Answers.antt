@@ -1,6 +1,5 @@
 -- `unpack::channel`: two bytes and three numbers of two bytes.
 use native.Mathlib.Omega.{arith}
-use borrow.Author.Rules.{rules}
 use lib.ListN.{length-set}
 use Rattle.sheet.proofs.Parts.{channel_stored}
 use Rattle.forms.proofs.unpack.channel.Goals as goal
@@ -8,14 +7,6 @@ use Rattle.forms.proofs.unpack.channel.Goals as goal
 pub returns : goal.returns
 returns c =
     channel_stored c.args.s.now c.args.list.now c.requires.1 c.two.ensures.0 c.two-2.ensures.0 c.two-3.ensures.0
-
-pub overflow_cast-list : goal.overflow_cast-list
-overflow_cast-list c =
-    omega (arith, c.shared_slice_known-2-1.given 0)
-
-pub overflow_cast-list-2 : goal.overflow_cast-list-2
-overflow_cast-list-2 c =
-    omega (arith, c.shared_slice_known-3-1.given 1)
 
 pub bounds-list-1 : goal.bounds-list-1
 bounds-list-1 c =
@@ -28,4 +19,3 @@ bounds-list-2 c =
 pub bounds-list-3 : goal.bounds-list-3
 bounds-list-3 c =
     simp length-set (omega arith)
-

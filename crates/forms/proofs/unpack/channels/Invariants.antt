@@ -1,10 +1,7 @@
 -- `unpack::channels`: one channel after the other.
-use borrow.Author.Rules.{rules}
-use lib.ListN.{length-take, length-drop}
 use Prim.Native.Nat.{◌-◌, ◌*◌}
-use native.Mathlib.Omega.{arith}
 use Rattle.sheet.specs.Layout.{channel_part}
-use Rattle.sheet.proofs.Parts.{Parts, unpacks, sizes_bytes, sizes_numbers, parts_start, parts_turn, parts_end}
+use Rattle.sheet.proofs.Parts.{Parts}
 use Rattle.sheet.specs.Fields.{numbers}
 use Rattle.forms.proofs.unpack.channels.Given as goal
 

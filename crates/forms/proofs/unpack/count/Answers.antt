@@ -1,7 +1,7 @@
 -- 01: the numbers of a sheet's graphs are counted graph by graph. A graph has fewer numbers than bytes, so the count stays below the
 -- length of the bytes.
 use mathlib.Core.Path.{◌≡◌, refl}
-use Prim.Native.Nat.{ℕ, ◌+◌, ◌-◌}
+use Prim.Native.Nat.{ℕ, ◌+◌}
 use native.Mathlib.Omega.{arith}
 use lib.ListN.{get_or}
 use Rattle.sheet.specs.Layout.{layout, total, in_bytes, in_numbers}
@@ -68,4 +68,3 @@ loop-k-preserved c =
 pub returns : goal.returns
 returns c =
     counting_end made_numbers c.loop-k.invariant c.loop-k-test.false
-

@@ -1,6 +1,5 @@
 -- `unpack::fixed`: four bytes and two numbers of four bytes.
 use native.Mathlib.Omega.{arith}
-use borrow.Author.Rules.{rules}
 use lib.ListN.{length-set}
 use Rattle.sheet.proofs.Parts.{fixed_stored}
 use Rattle.forms.proofs.unpack.fixed.Goals as goal
@@ -9,29 +8,13 @@ pub returns : goal.returns
 returns c =
     fixed_stored c.args.s.now c.args.list.now c.requires.1 c.four.ensures c.four-2.ensures
 
-pub overflow_cast-list : goal.overflow_cast-list
-overflow_cast-list c =
-    omega (arith, c.shared_slice_known-2-1.given 0)
-
-pub overflow_cast-list-2 : goal.overflow_cast-list-2
-overflow_cast-list-2 c =
-    omega (arith, c.shared_slice_known-3-1.given 1)
-
 pub bounds-list-1 : goal.bounds-list-1
 bounds-list-1 c =
     simp length-set (omega arith)
 
-pub overflow_cast-list-3 : goal.overflow_cast-list-3
-overflow_cast-list-3 c =
-    omega (arith, c.shared_slice_known-4-1.given 2)
-
 pub bounds-list-2 : goal.bounds-list-2
 bounds-list-2 c =
     simp length-set (omega arith)
-
-pub overflow_cast-list-4 : goal.overflow_cast-list-4
-overflow_cast-list-4 c =
-    omega (arith, c.shared_slice_known-5-1.given 3)
 
 pub bounds-list-3 : goal.bounds-list-3
 bounds-list-3 c =
@@ -40,4 +23,3 @@ bounds-list-3 c =
 pub bounds-list-4 : goal.bounds-list-4
 bounds-list-4 c =
     simp length-set (omega arith)
-

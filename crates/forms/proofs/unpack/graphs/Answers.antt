@@ -2,7 +2,6 @@
 use mathlib.Core.Path.{◌≡◌, refl}
 use Prim.Native.Nat.{ℕ, ◌+◌, ◌-◌}
 use native.Mathlib.Omega.{arith}
-use borrow.Author.Rules.{rules}
 use borrow.Rule.Slice.PartMut.{put_mid}
 use lib.ListN.{length, get_or}
 use Rattle.sheet.specs.Layout.{layout, total, in_bytes, in_numbers}
@@ -77,4 +76,3 @@ shape_of-list c =
 pub returns : goal.returns
 returns c =
     writing_end made_numbers c.loop-k.invariant c.loop-k-test.false
-

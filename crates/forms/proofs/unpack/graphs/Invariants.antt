@@ -1,15 +1,8 @@
 -- 01: the graphs of a sheet are unpacked one after the other, each behind the numbers of those before it.
-use mathlib.Core.Path.{◌≡◌, refl}
-use Prim.Native.Nat.{ℕ, ◌+◌, ◌-◌}
-use native.Mathlib.Omega.{arith}
-use borrow.Author.Rules.{rules}
-use borrow.Rule.Slice.PartMut.{put_mid}
-use lib.ListN.{length, get_or}
-use Rattle.sheet.specs.Layout.{layout, total, in_bytes, in_numbers}
-use Rattle.sheet.proofs.GraphLayout.{fixed_bytes}
-use Rattle.sheet.proofs.Walk.{Stands, walking_stands}
+use Prim.Native.Nat.{◌-◌}
+use Rattle.sheet.specs.Layout.{in_bytes}
 use Rattle.sheet.specs.Forms.{graphs_numbers}
-use Rattle.forms.proofs.Writing.{made_numbers, stretch_next, Writing, writing_start, writing_graph, writing_turn, writing_end}
+use Rattle.forms.proofs.Writing.{Writing}
 use Rattle.forms.proofs.unpack.graphs.Given as goal
 
 abbrev pub invariant-loop-k : goal.invariant-loop-k

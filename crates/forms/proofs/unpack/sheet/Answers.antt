@@ -25,7 +25,7 @@ overflow_add-all c =
 pub returns-then-list-all : goal.returns-then-list-all
 returns-then-list-all c =
     let on : check_sheet c.args.s.now ≡ On = sym c.sheet-checked.ensures ∙ c.in-On.is in
-    (unpack_room _ on c.count-all.ensures _ c.if-list-all.true, refl)
+    record { answer = unpack_room _ on c.count-all.ensures _ c.if-list-all.true; memory = refl }
 
 pub graphs-requires : goal.graphs-requires
 graphs-requires c =
@@ -36,9 +36,11 @@ graphs-requires c =
 pub returns : goal.returns
 returns c =
     let on : check_sheet c.args.s.now ≡ On = sym c.sheet-checked.ensures ∙ c.in-On.is in
-    let o = on in
     let left = c.if-list-all.false in
-    (unpack_wrote _ o c.count-all.ensures _ left, unpack_memory _ o c.count-all.ensures _ left c.graphs.ensures)
+    record {
+      answer = unpack_wrote _ on c.count-all.ensures _ left;
+      memory = unpack_memory _ on c.count-all.ensures _ left c.graphs.ensures;
+    }
 
 pub bounds-s-3 : goal.bounds-s-3
 bounds-s-3 c =
@@ -95,8 +97,3 @@ slice_bounds-graphs-count-2 c =
 pub slice_bounds-graphs-start-2 : goal.slice_bounds-graphs-start-2
 slice_bounds-graphs-start-2 c =
     simp length-set (search rules)
-
-pub shape_of-list : goal.shape_of-list
-shape_of-list c =
-    c.list-1.given.1 ∙ simp length-set
-

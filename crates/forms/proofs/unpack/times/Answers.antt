@@ -1,11 +1,7 @@
 -- `unpack::times`: one worst-case time after the other.
-use borrow.Author.Rules.{rules}
 use lib.ListN.{length-take, length-drop}
-use Prim.Native.Nat.{◌-◌, ◌*◌}
 use native.Mathlib.Omega.{arith}
-use Rattle.sheet.proofs.Parts.{Parts, unpacks, sizes_bytes, sizes_numbers, parts_start, parts_turn, parts_end}
-use Rattle.sheet.specs.Fields.{numbers}
-use Rattle.sheet.specs.Layout.{actor_part}
+use Rattle.sheet.proofs.Parts.{unpacks, sizes_bytes, sizes_numbers, parts_start, parts_turn, parts_end}
 use Rattle.forms.proofs.unpack.times.Goals as goal
 
 pub loop-k-preserved : goal.loop-k-preserved
@@ -28,4 +24,3 @@ time-requires c =
 pub shape_of-list : goal.shape_of-list
 shape_of-list c =
     c.loop-k.invariant.kept
-

@@ -1,5 +1,4 @@
 -- `graph::reach::from_input` meets its contract: those that are met along the channels are those that the input reaches.
-use borrow.Author.Rules.{rules}
 use Rattle.graph.proofs.Reaching.{only_below, ready_heads, from_decides}
 use Rattle.graph.proofs.reach.from_input.Goals as goal
 
@@ -10,4 +9,3 @@ spread-requires c =
 pub returns : goal.returns
 returns c =
     from_decides c.requires.0 c.requires.1 c.covers.result c.only.ensures c.spread.ensures c.covers.ensures
-

@@ -1,6 +1,5 @@
 -- `graph::reach::to_output` meets its contract: those that are met against the channels from some that reach the output are those
 -- that reach it.
-use borrow.Author.Rules.{rules}
 use Rattle.sets.proofs.Decided.{decided_yes}
 use Rattle.graph.proofs.Reaching.{ready_tails, unskipped_all, to_decides}
 use Rattle.graph.proofs.reach.to_output.Goals as goal
@@ -16,4 +15,3 @@ spread-requires c =
 pub returns : goal.returns
 returns c =
     to_decides c.requires.0 c.requires.1 c.covers-2.result c.requires.2 c.spread.ensures c.covers-2.ensures
-

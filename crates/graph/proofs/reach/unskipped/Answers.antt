@@ -1,5 +1,4 @@
 -- `graph::reach::unskipped` meets its contract: those that are met from the output against the tied channels cannot skip.
-use borrow.Author.Rules.{rules}
 use Rattle.graph.proofs.Reaching.{only_below, ready_tied, unskipped_met}
 use Rattle.graph.proofs.reach.unskipped.Goals as goal
 
@@ -10,4 +9,3 @@ spread-requires c =
 pub returns : goal.returns
 returns c =
     unskipped_met c.requires.0 c.requires.1 c.only.ensures c.spread.ensures
-

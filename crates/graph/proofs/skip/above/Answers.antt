@@ -1,7 +1,6 @@
 -- `graph::skip::above` meets its contract.
 use native.Mathlib.Nat.{mul-le-mul}
 use native.Mathlib.Omega.{arith}
-use borrow.Author.Rules.{rules}
 use Rattle.graph.proofs.skip.above.Goals as goal
 
 pub times-requires : goal.times-requires
@@ -11,4 +10,3 @@ times-requires c =
 pub returns : goal.returns
 returns c =
     cc
-

@@ -1,5 +1,4 @@
 -- `graph::skip::allowed` meets its contract.
-use borrow.Author.Rules.{rules}
 use Rattle.sdf.specs.Skip.{allowed}
 use Rattle.graph.proofs.skip.allowed.Goals as goal
 
@@ -7,4 +6,3 @@ pub returns : goal.returns
 unfolding allowed
 returns c =
     cc
-

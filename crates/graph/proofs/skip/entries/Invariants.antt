@@ -1,8 +1,6 @@
 -- `graph::skip::entries` meets its contract. The invariant: who is below v and not in `set` has all its tails in `zero`.
 use Prim.Native.Nat.{◌-◌, ◌≤◌}
-use native.Mathlib.Omega.{arith}
-use borrow.Author.Rules.{rules}
-use Rattle.graph.proofs.Lowering.{Entering, entering_start, entering_turn, entering_end}
+use Rattle.graph.proofs.Lowering.{Entering}
 use Rattle.graph.proofs.skip.entries.Given as goal
 
 abbrev pub invariant-loop-v : goal.invariant-loop-v

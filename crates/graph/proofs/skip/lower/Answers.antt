@@ -3,7 +3,6 @@ use mathlib.Core.Path.{ap, sym, ◌∙◌}
 use Prim.Native.Nat.{◌+◌, ◌-◌, ◌<◌}
 use native.Mathlib.Omega.{arith}
 use lib.ListN.{length, get_or}
-use borrow.Author.Rules.{rules}
 use Rattle.sdf.specs.Skip.{allowed}
 use Rattle.trial.specs.Flat.{channel_at, graph_of}
 use Rattle.sets.specs.Decides.{Decides}
@@ -11,7 +10,7 @@ use Rattle.trial.specs.Links.{heads, Chain}
 use Rattle.trial.proofs.Chains.{walked_next}
 use Rattle.sets.proofs.Decided.{decided_yes, decided_no}
 use Rattle.trial.proofs.Ends.{Ends, channel_ends}
-use Rattle.graph.proofs.Lowering.{Lowering, lowering_start, lowering_fits, lowering_asks, lowering_met, lowering_lower, lowering_end}
+use Rattle.graph.proofs.Lowering.{lowering_start, lowering_fits, lowering_asks, lowering_met, lowering_lower, lowering_end}
 use Rattle.graph.proofs.skip.lower.Goals as goal
 
 pub loop-at-init : goal.loop-at-init
@@ -90,15 +89,12 @@ loop-at-preserved-then-lowers c =
     let next : let s = c.args in Chain (heads s.channels.now) s.h (c.loop-at.at - 1) (get_or s.into.now (s.actors + (c.loop-at.at - 1)) 0) = walked_next c.requires.drawn.1 c.loop-at.invariant.walked (omega (arith, c.loop-at-test.true)) in
     let ends : let s = c.args in Ends (graph_of s.actors s.input s.output s.channels.now) s.actors (c.loop-at.at - 1) c.number-tail.result s.h = channel_ends _ _ _ c.args.channels.now _ _ _ c.requires.drawn.0.sound (omega (arith, c.loop-at.invariant.walked.within, c.loop-at-test.true)) c.number-tail.ensures (sym (c.loop-at.invariant.walked.ends (c.loop-at.at - 1) (omega (arith, c.loop-at-test.true)))) in
     let tested : Decides c.lowers.result (allowed (channel_at c.args.channels.now (c.loop-at.at - 1)) (get_or c.loop-at.s c.args.h 0) < get_or c.loop-at.s c.number-tail.result 0) = rw (← c.of-skip.ensures, ← c.of.ensures) c.lowers.ensures in
-    let c = c in
-    let i = c in
-    let c = i in
     lowering_lower ends c.loop-at.invariant c.count.result
     (c.count.ensures ∙ c.allowed.ensures ∙ ap (allowed (channel_at c.args.channels.now (c.loop-at.at - 1))) c.of-skip.ensures)
     (decided_yes _ c.lowers.result c.if-lowers.true tested)
     c.with-fell.ensures
-    (omega (arith, i.loop-at-test.true))
-    (next i)
+    (omega (arith, c.loop-at-test.true))
+    next
     c.requires.drawn.3
 
 pub loop-at-smaller : goal.loop-at-smaller
@@ -120,4 +116,3 @@ shape_of-s c =
 pub returns : goal.returns
 returns c =
     lowering_end c.loop-at-test.false c.loop-at.invariant
-

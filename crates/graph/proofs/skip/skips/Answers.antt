@@ -1,21 +1,19 @@
 -- `graph::skip::skips` meets its contract: with each turn an entry falls, or fewer actors are left to be looked at.
 use mathlib.Core.Path.{◌≡◌, refl, ◌∙◌}
-use Prim.Native.Nat.{◌+◌, ◌*◌, ◌^◌}
 use native.Mathlib.Omega.{arith}
 use lib.ListN.{length}
 use borrow.Author.Rules.{rules}
 use Rattle.sdf.specs.Graph.{Graph}
-use Rattle.sdf.specs.Sum.{sum_to}
 use Rattle.sets.proofs.Decided.{decided_yes}
 use Rattle.trial.specs.Flat.{graph_of, vector}
 use Rattle.graph.specs.Skip.{Falling}
-use Rattle.graph.proofs.Lowering.{falling_start, watched_start, zero_skips, Settling, Looks, settling_start, settling_turn, settling_less, settling_end}
+use Rattle.graph.proofs.Lowering.{falling_start, watched_start, zero_skips, Looks, settling_start, settling_turn, settling_less, settling_end}
 use Rattle.graph.proofs.skip.skips.Goals as goal
 
 pub start-requires : goal.start-requires
 start-requires c =
     let p = c.requires in
-    (p.0.0.actors, p.0.2, p.0.3, p.0.4.bound)
+    (p.drawn.0.actors, p.drawn.2, p.drawn.3, p.drawn.4.bound)
 
 pub covers-requires : goal.covers-requires
 covers-requires c =
@@ -28,7 +26,7 @@ shape_of-s-then-covers c =
 pub returns-then-covers : goal.returns-then-covers
 returns-then-covers c =
     let graph : Graph = let s = c.args in graph_of s.actors s.input s.output s.channels.now in
-    let falling : Falling graph c.args.zero (vector c.start.new.s) = let p = c.requires in falling_start _ _ _ _ p.0.0 p.0.4 c.start.ensures p.0.1 p.1.1 in
+    let falling : Falling graph c.args.zero (vector c.start.new.s) = let p = c.requires in falling_start _ _ _ _ p.drawn.0 p.drawn.4 c.start.ensures p.drawn.1 p.words.1 in
     zero_skips c.requires.drawn.0 falling (decided_yes _ c.covers.result c.if-covers.true c.covers.ensures)
 
 pub link-requires : goal.link-requires
@@ -38,15 +36,15 @@ link-requires c =
 pub loop-todo-init : goal.loop-todo-init
 loop-todo-init c =
     let graph : Graph = let s = c.args in graph_of s.actors s.input s.output s.channels.now in
-    let falling : Falling graph c.args.zero (vector c.start.new.s) = let p = c.requires in falling_start _ _ _ _ p.0.0 p.0.4 c.start.ensures p.0.1 p.1.1 in
+    let falling : Falling graph c.args.zero (vector c.start.new.s) = let p = c.requires in falling_start _ _ _ _ p.drawn.0 p.drawn.4 c.start.ensures p.drawn.1 p.words.1 in
     let p = c.requires in
-    (refl, settling_start p.0.0 falling (watched_start _ _ _ _ p.0.0 p.0.4 c.start.ensures) c.entries-todo.ensures)
+    (refl, settling_start p.drawn.0 falling (watched_start _ _ _ _ p.drawn.0 p.drawn.4 c.start.ensures) c.entries-todo.ensures)
 
 pub lower-fell-requires : goal.lower-fell-requires
 lower-fell-requires c =
     let size : length c.loop-todo.s ≡ length c.args.s.now = c.loop-todo.invariant.0 ∙ c.start.auto.s in
     let p = c.requires in record {
-      drawn = (p.0.0, c.link.ensures, c.loop-todo.invariant.1.actors _ c.greatest-h.ensures.1, omega (arith, size, p.0.3));
+      drawn = (p.drawn.0, c.link.ensures, c.loop-todo.invariant.1.actors _ c.greatest-h.ensures.1, omega (arith, size, p.drawn.3));
       falling = c.loop-todo.invariant.1.falling;
     }
 
@@ -78,4 +76,3 @@ shape_of-s c =
 pub returns : goal.returns
 returns c =
     settling_end c.loop-todo.invariant.1 c.loop-todo-test.false
-

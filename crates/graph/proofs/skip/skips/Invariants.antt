@@ -1,15 +1,10 @@
 -- `graph::skip::skips` meets its contract: with each turn an entry falls, or fewer actors are left to be looked at.
-use mathlib.Core.Path.{◌≡◌, refl, ◌∙◌}
+use mathlib.Core.Path.{◌≡◌}
 use Prim.Native.Nat.{◌+◌, ◌*◌, ◌^◌}
-use native.Mathlib.Omega.{arith}
 use lib.ListN.{length}
-use borrow.Author.Rules.{rules}
-use Rattle.sdf.specs.Graph.{Graph}
 use Rattle.sdf.specs.Sum.{sum_to}
-use Rattle.sets.proofs.Decided.{decided_yes}
 use Rattle.trial.specs.Flat.{graph_of, vector}
-use Rattle.graph.specs.Skip.{Falling}
-use Rattle.graph.proofs.Lowering.{falling_start, watched_start, zero_skips, Settling, Looks, settling_start, settling_turn, settling_less, settling_end}
+use Rattle.graph.proofs.Lowering.{Settling}
 use Rattle.graph.proofs.skip.skips.Given as goal
 
 abbrev pub invariant-loop-todo : goal.invariant-loop-todo

@@ -1,6 +1,5 @@
 -- `graph::skip::spare` meets its contract.
 use native.Mathlib.Omega.{arith}
-use borrow.Author.Rules.{rules}
 use Rattle.graph.proofs.skip.spare.Goals as goal
 
 pub tokens-requires : goal.tokens-requires
@@ -14,4 +13,3 @@ plus-requires c =
 pub returns : goal.returns
 returns c =
     cc
-

@@ -5,10 +5,9 @@ use native.Mathlib.Omega.{arith}
 use lib.ListN.{get_or}
 use borrow.Author.Rules.{rules}
 use Rattle.units.specs.Bounds.{max_repetition}
-use Rattle.trial.specs.Flat.{vector}
 use Rattle.sets.proofs.Bits.{has_small}
-use Rattle.sets.proofs.Vectors.{Filled, filled_start, filled_turn}
-use Rattle.graph.proofs.Lowering.{High, share_le, highest_end}
+use Rattle.sets.proofs.Vectors.{filled_start, filled_turn}
+use Rattle.graph.proofs.Lowering.{share_le, highest_end}
 use Rattle.graph.proofs.skip.start.Goals as goal
 
 pub loop-v-init : goal.loop-v-init
@@ -40,4 +39,3 @@ shape_of-s c =
 pub returns : goal.returns
 returns c =
     highest_end _ _ _ _ (λ v k. c.loop-v.invariant.1.entries v (omega arith))
-

@@ -4,7 +4,6 @@ use Prim.Native.Nat.{◌*◌, ◌≤◌}
 use native.Mathlib.Omega.{arith}
 use lib.ListN.{length, get_or}
 use lib.Seq.{length-take-le}
-use borrow.Author.Rules.{rules}
 use Rattle.units.specs.declared.SomeTicks.{SomeTicks}
 use Rattle.sheet.specs.declared.Answer.{Answer}
 use Rattle.sheet.specs.declared.Answer.TheVariants.{On}
@@ -25,10 +24,6 @@ bounds-l-0 c =
     let listed : Listed c.args.l.now = list_on _ checked in
     listed.inside
 
-pub overflow_cast-n : goal.overflow_cast-n
-overflow_cast-n c =
-    omega (arith, c.shared_slice_known-2-1.given 0)
-
 pub slice_bounds-walk-count : goal.slice_bounds-walk-count
 slice_bounds-walk-count c =
     let checked : check_list c.args.l.now ≡ On = sym c.list-checked.ensures ∙ c.in-On.is in
@@ -47,12 +42,12 @@ walk-walked-requires c =
     let listed : Listed c.args.l.now = list_on _ checked in
     let l = listed in
     let pre = c.requires in
-    (l.walk-walked, l.few, pre.0, pre.1)
+    (l.walk, l.few, pre.0, pre.1)
 
 pub returns-in-No-walked : goal.returns-in-No-walked
 returns-in-No-walked c =
     let checked : check_list c.args.l.now ≡ On = sym c.list-checked.ensures ∙ c.in-On.is in
-    let Walks : Answer → Type 0 = λ r. let l = c.args.l.now in let last = c.walk-walked.new.1.1 in Walked (get_or l 0 0) (next_of l 1) r last.0 last.1.0 in
+    let Walks : Answer → Type 0 = λ r. let l = c.args.l.now in let last = c.walk-walked.new in Walked (get_or l 0 0) (next_of l 1) r last.heads last.rows in
     prepares_walk _ _ checked (subst Walks c.in-No-walked.is c.walk-walked.ensures)
 
 pub overflow_mul-all : goal.overflow_mul-all
@@ -77,7 +72,7 @@ slice_bounds-frame-end-2 c =
 
 pub frame-found-requires : goal.frame-found-requires
 frame-found-requires c =
-    let Walks : Answer → Type 0 = λ r. let l = c.args.l.now in let last = c.walk-walked.new.1.1 in Walked (get_or l 0 0) (next_of l 1) r last.0 last.1.0 in
+    let Walks : Answer → Type 0 = λ r. let l = c.args.l.now in let last = c.walk-walked.new in Walked (get_or l 0 0) (next_of l 1) r last.heads last.rows in
     let walked : Walks On = subst Walks c.in-On-walked.is c.walk-walked.ensures in
     let checked : check_list c.args.l.now ≡ On = sym c.list-checked.ensures ∙ c.in-On.is in
     let listed : Listed c.args.l.now = list_on _ checked in
@@ -87,9 +82,9 @@ frame-found-requires c =
 
 pub returns-in-Within : goal.returns-in-Within
 returns-in-Within c =
-    let Frames : SomeTicks → Type 0 = λ f. let last = c.walk-walked.new.1.1 in Prepares c.args.l.now (prepared f) last.0 last.1.0 in
+    let Frames : SomeTicks → Type 0 = λ f. let last = c.walk-walked.new in Prepares c.args.l.now (prepared f) last.heads last.rows in
     let checked : check_list c.args.l.now ≡ On = sym c.list-checked.ensures ∙ c.in-On.is in
-    let Walks : Answer → Type 0 = λ r. let l = c.args.l.now in let last = c.walk-walked.new.1.1 in Walked (get_or l 0 0) (next_of l 1) r last.0 last.1.0 in
+    let Walks : Answer → Type 0 = λ r. let l = c.args.l.now in let last = c.walk-walked.new in Walked (get_or l 0 0) (next_of l 1) r last.heads last.rows in
     let walked : Walks On = subst Walks c.in-On-walked.is c.walk-walked.ensures in
     let listed : Listed c.args.l.now = list_on _ checked in
     let room : let heads = c.walk-walked.new.heads in (24 ≤ length heads) × (3 * get_or c.args.l.now 0 0 ≤ length heads) = let kept = c.walk-walked.auto in let pre = c.requires in (omega (arith, kept, pre), omega (arith, kept, pre, listed.few)) in
@@ -98,12 +93,11 @@ returns-in-Within c =
 
 pub returns-in-Outside : goal.returns-in-Outside
 returns-in-Outside c =
-    let Frames : SomeTicks → Type 0 = λ f. let last = c.walk-walked.new.1.1 in Prepares c.args.l.now (prepared f) last.0 last.1.0 in
+    let Frames : SomeTicks → Type 0 = λ f. let last = c.walk-walked.new in Prepares c.args.l.now (prepared f) last.heads last.rows in
     let checked : check_list c.args.l.now ≡ On = sym c.list-checked.ensures ∙ c.in-On.is in
-    let Walks : Answer → Type 0 = λ r. let l = c.args.l.now in let last = c.walk-walked.new.1.1 in Walked (get_or l 0 0) (next_of l 1) r last.0 last.1.0 in
+    let Walks : Answer → Type 0 = λ r. let l = c.args.l.now in let last = c.walk-walked.new in Walked (get_or l 0 0) (next_of l 1) r last.heads last.rows in
     let walked : Walks On = subst Walks c.in-On-walked.is c.walk-walked.ensures in
     let listed : Listed c.args.l.now = list_on _ checked in
     let room : let heads = c.walk-walked.new.heads in (24 ≤ length heads) × (3 * get_or c.args.l.now 0 0 ≤ length heads) = let kept = c.walk-walked.auto in let pre = c.requires in (omega (arith, kept, pre), omega (arith, kept, pre, listed.few)) in
     let framed : Frames c.frame-found.result = prepares_ready _ _ _ checked room.0 walked c.frame-found.result c.frame-found.ensures in
     subst Frames c.in-Outside.is framed
-

@@ -1,5 +1,5 @@
 -- `prepare::numbers` meets its contract: answers 6 to 11 for one graph.
-use mathlib.Core.Path.{◌≡◌, sym, ap, subst, ◌∙◌}
+use mathlib.Core.Path.{◌≡◌, sym, subst, ◌∙◌}
 use mathlib.Core.Bool.{true}
 use mathlib.Core.List.{List, ◌++◌}
 use Prim.Native.Nat.{ℕ, ◌*◌, ◌≤◌}
@@ -7,7 +7,6 @@ use native.Mathlib.Nat.{mul-le-mul}
 use native.Mathlib.Omega.{arith}
 use lib.ListN.{length, get_or, take, drop, length-append, length-drop}
 use lib.Seq.{length-take-le}
-use borrow.Author.Tests.{not-true, not-false}
 use Rattle.sdf.specs.Graph.{Graph}
 use Rattle.trial.specs.Flat.{graph_of}
 use Rattle.graph.specs.Judged.{Judged}
@@ -17,7 +16,6 @@ use Rattle.ready.specs.Ready.{Says}
 use Rattle.ready.proofs.Sound.{drawn_few, drawn_sound}
 use Rattle.ready.proofs.Places.{there}
 use Rattle.ready.proofs.Says.{says_range, channels_part, says}
-use borrow.Author.Rules.{rules}
 use Rattle.ready.proofs.prepare.numbers.Goals as goal
 
 -- A front that is stored back with the same length leaves the list as long as it was.
@@ -30,93 +28,74 @@ returns-then-not-graph c =
 
 pub bounds-l-0 : goal.bounds-l-0
 bounds-l-0 c =
-    omega (arith, there _ c.requires.drawn)
-
-pub overflow_cast-actors : goal.overflow_cast-actors
-overflow_cast-actors c =
-    omega (arith, c.shared_slice_known-2-1.given 0)
+    omega (arith, there _ c.requires.l_value)
 
 pub overflow_add-first : goal.overflow_add-first
 overflow_add-first c =
-    omega (arith, there _ c.requires.drawn)
+    omega (arith, there _ c.requires.l_value)
 
 pub bounds-l-1 : goal.bounds-l-1
 bounds-l-1 c =
-    omega (arith, there _ c.requires.drawn)
-
-pub overflow_cast-last : goal.overflow_cast-last
-overflow_cast-last c =
-    omega (arith, c.shared_slice_known-3-1.given 1)
+    omega (arith, there _ c.requires.l_value)
 
 pub overflow_mul-last : goal.overflow_mul-last
 overflow_mul-last c =
-    omega (arith, there _ c.requires.drawn)
+    omega (arith, there _ c.requires.l_value)
 
 pub overflow_add-last : goal.overflow_add-last
 overflow_add-last c =
-    omega (arith, there _ c.requires.drawn)
+    omega (arith, there _ c.requires.l_value)
 
 pub bounds-l-2 : goal.bounds-l-2
 bounds-l-2 c =
-    omega (arith, there _ c.requires.drawn)
-
-pub overflow_cast-l : goal.overflow_cast-l
-overflow_cast-l c =
-    omega (arith, c.shared_slice_known-4-1.given 2)
+    omega (arith, there _ c.requires.l_value)
 
 pub bounds-l-3 : goal.bounds-l-3
 bounds-l-3 c =
-    omega (arith, there _ c.requires.drawn)
-
-pub overflow_cast-l-2 : goal.overflow_cast-l-2
-overflow_cast-l-2 c =
-    omega (arith, c.shared_slice_known-5-1.given 3)
+    omega (arith, there _ c.requires.l_value)
 
 pub offset_bounds-l-first : goal.offset_bounds-l-first
 offset_bounds-l-first c =
-    omega (arith, there _ c.requires.drawn)
+    omega (arith, there _ c.requires.l_value)
 
 pub slice_bounds-numbers-end : goal.slice_bounds-numbers-end
 slice_bounds-numbers-end c =
-    omega (arith, there _ c.requires.drawn)
+    omega (arith, there _ c.requires.l_value)
 
 pub overflow_mul-actors : goal.overflow_mul-actors
 overflow_mul-actors c =
-    omega (arith, there _ c.requires.drawn)
+    omega (arith, there _ c.requires.l_value)
 
 pub slice_bounds-numbers-end-2 : goal.slice_bounds-numbers-end-2
 slice_bounds-numbers-end-2 c =
-    let words-room : 3 * get_or c.args.l.now 0 0 ≤ length c.args.words.now = omega (arith, there _ c.requires.drawn, c.requires.actors_in_bounds.1.0.0) in
+    let words-room : 3 * get_or c.args.l.now 0 0 ≤ length c.args.words.now = omega (arith, there _ c.requires.l_value, c.requires.in_bounds_2.0) in
     words-room
 
 pub slice_bounds-numbers-end-3 : goal.slice_bounds-numbers-end-3
 slice_bounds-numbers-end-3 c =
-    let words-room : 3 * get_or c.args.l.now 0 0 ≤ length c.args.words.now = omega (arith, there _ c.requires.drawn, c.requires.actors_in_bounds.1.0.0) in
+    let words-room : 3 * get_or c.args.l.now 0 0 ≤ length c.args.words.now = omega (arith, there _ c.requires.l_value, c.requires.in_bounds_2.0) in
     sym (length-take-le (3 * get_or c.args.l.now 0 0) c.args.words.now words-room)
 
 pub numbers-found-requires : goal.numbers-found-requires
 numbers-found-requires c =
-    let words-room : 3 * get_or c.args.l.now 0 0 ≤ length c.args.words.now = omega (arith, there _ c.requires.drawn, c.requires.actors_in_bounds.1.0.0) in
-    let ranged : let l = c.args.l.now in in_range (layout_of l) l ≡ true = sym c.graph.ensures ∙ c.if-not-graph.false in
     let l = c.args.l.now in
-    let few = drawn_few l c.requires.drawn.0 c.requires.drawn.1 in
+    let words-room : 3 * get_or l 0 0 ≤ length c.args.words.now = omega (arith, there _ c.requires.l_value, c.requires.in_bounds_2.0) in
+    let ranged : in_range (layout_of l) l ≡ true = sym c.graph.ensures ∙ c.if-not-graph.false in
+    let few = drawn_few l c.requires.l_value.0 c.requires.l_value.1 in
     let pairs = mul-le-mul few.0 few.0 in
-    let (q_room, s-room) = c.requires.actors_in_bounds.0 in
-    let (words-there, between-room, awaits-room, kept-room) = c.requires.actors_in_bounds.1.0 in
-    let (tokens_room, left_room, ready_room, into-room, out-room, hints-room) = c.requires.actors_in_bounds.1.1 in (
-      (rw channels_part (drawn_sound l c.requires.drawn.0 c.requires.drawn.1 ranged), length-take-le (3 * get_or l 0 0) c.args.words.now words-room, omega (arith, between-room, pairs)),
-      (
-        (omega (arith, q_room, few), omega (arith, s-room, few), omega (arith, awaits-room, few), rw channels_part (omega (arith, kept-room, few))),
-        (
-          (rw channels_part (omega (arith, tokens_room, few)), omega (arith, left_room, few), omega (arith, ready_room, few)),
-          (rw channels_part (omega (arith, into-room, few)), rw channels_part (omega (arith, out-room, few)), hints-room),
-        ),
-      ),
-    )
+    let (q_room, s-room) = c.requires.in_bounds in
+    let (words-there, between-room, awaits-room, kept-room) = c.requires.in_bounds_2 in
+    let (tokens_room, left_room, ready_room, into-room, out-room, hints-room) = c.requires.in_bounds_3 in
+    record {
+      drawn = (rw channels_part (drawn_sound l c.requires.l_value.0 c.requires.l_value.1 ranged), length-take-le (3 * get_or l 0 0) c.args.words.now words-room, omega (arith, between-room, pairs));
+      actors_in_bounds = (omega (arith, q_room, few), omega (arith, s-room, few), omega (arith, awaits-room, few), rw channels_part (omega (arith, kept-room, few)));
+      channels_in_bounds = (rw channels_part (omega (arith, tokens_room, few)), omega (arith, left_room, few), omega (arith, ready_room, few));
+      channels_in_bounds_2 = (rw channels_part (omega (arith, into-room, few)), rw channels_part (omega (arith, out-room, few)), hints-room);
+    }
 
 pub shape_of-words : goal.shape_of-words
 shape_of-words c =
-    let words-room : 3 * get_or c.args.l.now 0 0 ≤ length c.args.words.now = omega (arith, there _ c.requires.drawn, c.requires.actors_in_bounds.1.0.0) in
+    let words-room : 3 * get_or c.args.l.now 0 0 ≤ length c.args.words.now = omega (arith, there _ c.requires.l_value, c.requires.in_bounds_2.0) in
     front-back (3 * get_or c.args.l.now 0 0) c.args.words.now c.numbers-found.new.words words-room c.numbers-found.auto.words
 
 pub returns : goal.returns
@@ -125,53 +104,8 @@ returns c =
     let e = c.numbers-found in
     let l = c.args.l.now in
     let g : List ℕ → Graph = λ x. graph_of (get_or l 0 0) (get_or l 2 0) (get_or l 3 0) x in
-    let q = e.new.1.1.1.1.0 in
-    let s = e.new.1.1.1.1.1.0 in
+    let q = e.new.q in
+    let s = e.new.s in
     subst (λ r. Says c.args.k l r q s) (sym c.refusal.ensures)
-    (says c.args.k l q s c.requires.drawn.0 c.requires.drawn.1 (omega (arith, c.requires.actors_in_bounds.0, e.auto.1.1.1.1.0)) (omega (arith, c.requires.actors_in_bounds.0, e.auto.1.1.1.1.1.0)) ranged e.result
+    (says c.args.k l q s c.requires.l_value.0 c.requires.l_value.1 (omega (arith, c.requires.in_bounds, e.auto.q)) (omega (arith, c.requires.in_bounds, e.auto.s)) ranged e.result
     (subst (λ x. Judged (g x) e.result q s) (channels_part l) e.ensures))
-
-pub shape_of-q : goal.shape_of-q
-shape_of-q c =
-    c.numbers-found.auto.q
-
-pub shape_of-s : goal.shape_of-s
-shape_of-s c =
-    c.numbers-found.auto.s
-
-pub shape_of-between : goal.shape_of-between
-shape_of-between c =
-    c.numbers-found.auto.between
-
-pub shape_of-awaits : goal.shape_of-awaits
-shape_of-awaits c =
-    c.numbers-found.auto.awaits
-
-pub shape_of-kept : goal.shape_of-kept
-shape_of-kept c =
-    c.numbers-found.auto.kept
-
-pub shape_of-tokens : goal.shape_of-tokens
-shape_of-tokens c =
-    c.numbers-found.auto.tokens
-
-pub shape_of-left : goal.shape_of-left
-shape_of-left c =
-    c.numbers-found.auto.left
-
-pub shape_of-ready : goal.shape_of-ready
-shape_of-ready c =
-    c.numbers-found.auto.ready
-
-pub shape_of-into : goal.shape_of-into
-shape_of-into c =
-    c.numbers-found.auto.into
-
-pub shape_of-out : goal.shape_of-out
-shape_of-out c =
-    c.numbers-found.auto.out
-
-pub shape_of-hints : goal.shape_of-hints
-shape_of-hints c =
-    c.numbers-found.auto.hints
-

@@ -1,5 +1,4 @@
 -- `prepare::refusal` meets its contract: each answer of the engine with the place of its graph.
-use borrow.Author.Rules.{rules}
 use Rattle.ready.proofs.prepare.refusal.Goals as goal
 
 pub returns-in-Reach : goal.returns-in-Reach
@@ -21,4 +20,3 @@ returns-in-Deadlock c =
 pub returns-in-Restless : goal.returns-in-Restless
 returns-in-Restless c =
     rw c.in-Restless.is
-

@@ -1,26 +1,17 @@
 -- `prepare::row` meets its contract. The loop's invariant: the row holds the first v actors' numbers.
-use Prim.Native.Nat.{◌+◌, ◌-◌}
 use native.Mathlib.Omega.{arith}
 use lib.ListN.{length-set}
 use borrow.Author.Rules.{rules}
-use Rattle.ready.proofs.Places.{there, Placing, placing_start, placing_turn, placing_end}
+use Rattle.ready.proofs.Places.{there, placing_start, placing_turn, placing_end}
 use Rattle.ready.proofs.prepare.row.Goals as goal
 
 pub bounds-l-0 : goal.bounds-l-0
 bounds-l-0 c =
     omega (arith, there _ c.requires.l_value)
 
-pub overflow_cast-actors : goal.overflow_cast-actors
-overflow_cast-actors c =
-    omega (arith, c.shared_slice_known-1.given 0)
-
 pub loop-v-init : goal.loop-v-init
 loop-v-init c =
     placing_start c.requires.l_value
-
-pub overflow_cast-rows : goal.overflow_cast-rows
-overflow_cast-rows c =
-    omega (arith, c.shared_slice_known-in-loop-v-1.given (6 + c.loop-v.v))
 
 pub bounds-rows-p-in-loop-v : goal.bounds-rows-p-in-loop-v
 bounds-rows-p-in-loop-v c =
@@ -38,4 +29,3 @@ pub returns : goal.returns
 returns c =
     let room = c.requires.in_bounds in
     placing_end c.loop-v.invariant c.loop-v-test.false room.0 room.1 (omega arith)
-

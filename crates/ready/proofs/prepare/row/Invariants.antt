@@ -1,9 +1,6 @@
 -- `prepare::row` meets its contract. The loop's invariant: the row holds the first v actors' numbers.
-use Prim.Native.Nat.{◌+◌, ◌-◌}
-use native.Mathlib.Omega.{arith}
-use lib.ListN.{length-set}
-use borrow.Author.Rules.{rules}
-use Rattle.ready.proofs.Places.{there, Placing, placing_start, placing_turn, placing_end}
+use Prim.Native.Nat.{◌-◌}
+use Rattle.ready.proofs.Places.{Placing}
 use Rattle.ready.proofs.prepare.row.Given as goal
 
 abbrev pub invariant-loop-v : goal.invariant-loop-v

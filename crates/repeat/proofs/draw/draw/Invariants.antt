@@ -1,14 +1,9 @@
 -- `graph::draw::draw` meets its contract. The invariant: the words and sets are filled by the channels passed.
-use mathlib.Core.Path.{◌≡◌, refl, sym, ◌∙◌}
-use Prim.Native.Nat.{◌+◌, ◌*◌, ◌-◌, ◌<◌, ◌≤◌}
-use native.Mathlib.Omega.{arith}
-use lib.ListN.{length, set, length-set}
-use borrow.Author.Rules.{rules}
-use Rattle.sdf.specs.Graph.{Graph}
+use mathlib.Core.Path.{◌≡◌}
+use Prim.Native.Nat.{◌*◌, ◌-◌, ◌≤◌}
+use lib.ListN.{length}
 use Rattle.trial.specs.Flat.{graph_of}
-use Rattle.trial.specs.Read.{seen, Read}
-use Rattle.trial.proofs.Places.{read}
-use Rattle.repeat.proofs.Drawing.{Drawing, Draws, marked_by, put_by, place_below, place_small, drawing_start, drawing_turn, drawing_end}
+use Rattle.repeat.proofs.Drawing.{Drawing}
 use Rattle.repeat.proofs.draw.draw.Given as goal
 
 abbrev pub invariant-loop-c : goal.invariant-loop-c

@@ -2,7 +2,6 @@
 use mathlib.Core.Path.{◌∙◌}
 use Rattle.trial.specs.Read.{seen}
 use Rattle.repeat.proofs.Growth.{enough_self, enough_other}
-use borrow.Author.Rules.{rules}
 use Rattle.repeat.proofs.repetition.enough.Goals as goal
 
 pub returns-then-e : goal.returns-then-e
@@ -12,4 +11,3 @@ returns-then-e c =
 pub returns : goal.returns
 returns c =
     λ q e. e ∙ enough_other (seen c.args.e) q c.if-e.false
-

@@ -1,7 +1,6 @@
 -- `factor` gives the least factor: the loop goes up from 1 and keeps what k times the tokens leave.
-use Prim.Native.Nat.{◌-◌}
 use native.Mathlib.Omega.{arith}
-use Rattle.repeat.proofs.Growth.{Factoring, factoring_start, factoring_turn, factoring_below, factoring_end}
+use Rattle.repeat.proofs.Growth.{factoring_start, factoring_turn, factoring_below, factoring_end}
 use borrow.Author.Rules.{rules}
 use Rattle.repeat.proofs.repetition.factor.Goals as goal
 
@@ -32,4 +31,3 @@ loop-rest-preserved c =
 pub returns : goal.returns
 returns c =
     rw (← c.count-m.ensures, ← c.count-c.ensures) (factoring_end c.loop-rest.invariant c.loop-rest-test.false)
-

@@ -1,8 +1,6 @@
 -- `factor` gives the least factor: the loop goes up from 1 and keeps what k times the tokens leave.
 use Prim.Native.Nat.{◌-◌}
-use native.Mathlib.Omega.{arith}
-use Rattle.repeat.proofs.Growth.{Factoring, factoring_start, factoring_turn, factoring_below, factoring_end}
-use borrow.Author.Rules.{rules}
+use Rattle.repeat.proofs.Growth.{Factoring}
 use Rattle.repeat.proofs.repetition.factor.Given as goal
 
 abbrev pub invariant-loop-rest : goal.invariant-loop-rest

@@ -1,19 +1,9 @@
 -- `grow` gives numbers to all that the input reaches. The invariant: those known have one, and those to do are whom they lead to.
-use mathlib.Core.Path.{◌≡◌, refl, sym, subst, ◌∙◌}
-use mathlib.Core.Bool.{Bool}
-use Prim.Native.Nat.{ℕ, ◌+◌, ◌*◌, ◌-◌, ◌^◌, ◌<◌, ◌≤◌}
-use borrow.Author.Tests.{not-true, not-false}
-use native.Mathlib.Nat.{mul-le-mul, le_refl}
-use native.Mathlib.Omega.{arith}
-use lib.ListN.{length, get_or, length-set}
-use Rattle.sets.proofs.Bits.{put_grows}
-use Rattle.sets.proofs.Decided.{decided_yes, decided_no}
-use Rattle.sdf.specs.Graph.{Graph}
-use Rattle.trial.specs.Flat.{graph_of, vector}
-use Rattle.repeat.specs.Words.{Joins}
-use Rattle.repeat.specs.Repetition.{Extended, Extends}
-use Rattle.repeat.proofs.Growth.{Growing, growing_start, growing_actor, growing_some, growing_joins, growing_turn, growing_all, growing_unreached}
-use borrow.Author.Rules.{rules}
+use mathlib.Core.Path.{◌≡◌}
+use Prim.Native.Nat.{◌-◌, ◌^◌}
+use lib.ListN.{length}
+use Rattle.trial.specs.Flat.{graph_of}
+use Rattle.repeat.proofs.Growth.{Growing}
 use Rattle.repeat.proofs.repetition.grow.Given as goal
 
 abbrev pub invariant-loop-todo : goal.invariant-loop-todo

@@ -11,4 +11,3 @@ returns-then-n-c c =
 pub returns : goal.returns
 returns c =
     left_again c.if-n-c.false c.requires
-

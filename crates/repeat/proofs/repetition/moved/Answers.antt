@@ -12,4 +12,3 @@ tokens-requires c =
 pub returns : goal.returns
 returns c =
     c.tokens.ensures ∙ ap (λ (n : ℕ). n * c.args.rate.n) c.of.ensures
-

@@ -1,11 +1,10 @@
 -- `scale` multiplies every number, or shows one that would pass the bound.
-use mathlib.Core.Path.{◌≡◌, subst}
-use Prim.Native.Nat.{ℕ, ◌*◌, ◌-◌, ◌<◌, ◌≤◌}
+use mathlib.Core.Path.{subst}
+use Prim.Native.Nat.{ℕ, ◌*◌, ◌<◌}
 use native.Mathlib.Nat.{le_refl}
 use native.Mathlib.Omega.{arith}
-use lib.ListN.{length}
 use Rattle.units.specs.Bounds.{max_repetition}
-use Rattle.repeat.proofs.Growth.{moved_fits, Scaling, scaling_start, scaling_turn}
+use Rattle.repeat.proofs.Growth.{moved_fits, scaling_start, scaling_turn}
 use borrow.Author.Rules.{rules}
 use Rattle.repeat.proofs.repetition.scale.Goals as goal
 
@@ -34,4 +33,3 @@ loop-i-preserved c =
 pub returns : goal.returns
 returns c =
     λ v l. c.loop-i.invariant.2.done v (omega arith)
-

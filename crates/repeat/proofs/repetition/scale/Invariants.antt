@@ -1,12 +1,8 @@
 -- `scale` multiplies every number, or shows one that would pass the bound.
-use mathlib.Core.Path.{◌≡◌, subst}
-use Prim.Native.Nat.{ℕ, ◌*◌, ◌-◌, ◌<◌, ◌≤◌}
-use native.Mathlib.Nat.{le_refl}
-use native.Mathlib.Omega.{arith}
+use mathlib.Core.Path.{◌≡◌}
+use Prim.Native.Nat.{◌-◌, ◌≤◌}
 use lib.ListN.{length}
-use Rattle.units.specs.Bounds.{max_repetition}
-use Rattle.repeat.proofs.Growth.{moved_fits, Scaling, scaling_start, scaling_turn}
-use borrow.Author.Rules.{rules}
+use Rattle.repeat.proofs.Growth.{Scaling}
 use Rattle.repeat.proofs.repetition.scale.Given as goal
 
 abbrev pub invariant-loop-i : goal.invariant-loop-i

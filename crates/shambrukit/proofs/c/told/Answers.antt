@@ -1,6 +1,5 @@
 -- What a question is answered with, as answer, place and value.
 use mathlib.Core.Path.{sym, ap, ◌∙◌}
-use borrow.Author.Rules.{rules}
 use Rattle.shambrukit.specs.Calls.{told_of}
 use Rattle.shambrukit.proofs.c.told.Goals as goal
 
@@ -11,4 +10,3 @@ returns-in-Value c =
 pub returns-in-Refused : goal.returns-in-Refused
 returns-in-Refused c =
     c.refused.ensures ∙ sym (ap told_of c.in-Refused.is)
-

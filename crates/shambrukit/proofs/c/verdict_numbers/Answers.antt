@@ -1,6 +1,5 @@
 -- 01, The answer table: a verdict as answer, place, frame load, frame and length.
 use mathlib.Core.Path.{sym, ap, ◌∙◌}
-use borrow.Author.Rules.{rules}
 use Rattle.shambrukit.specs.Verdict.{row_of}
 use Rattle.shambrukit.proofs.c.verdict_numbers.Goals as goal
 
@@ -21,4 +20,3 @@ pub returns-in-Refused : goal.returns-in-Refused
 returns-in-Refused c =
     let row = sym (ap row_of c.in-Refused.is) in
     rw (c.number.ensures, c.place.ensures) row
-

@@ -1,6 +1,5 @@
 -- What a call that fills lent memory says, as answer, place and how many it wrote.
 use mathlib.Core.Path.{sym, ap, ◌∙◌}
-use borrow.Author.Rules.{rules}
 use Rattle.shambrukit.specs.Calls.{written_of}
 use Rattle.shambrukit.proofs.c.wrote.Goals as goal
 
@@ -11,4 +10,3 @@ returns-in-Wrote c =
 pub returns-in-Refused : goal.returns-in-Refused
 returns-in-Refused c =
     c.refused.ensures ∙ sym (ap written_of c.in-Refused.is)
-

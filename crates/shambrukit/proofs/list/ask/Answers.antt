@@ -1,6 +1,5 @@
 -- `list::ask` meets its contract.
 use borrow.Author.Rules.{rules}
-use native.Mathlib.Omega.{arith}
 use Rattle.ready.specs.Lines.{refused, ready}
 use Rattle.shambrukit.proofs.Prepares.{ReadyHeld, refused_lines, ready_held}
 use Rattle.shambrukit.proofs.Answers.{asked_refused}
@@ -10,10 +9,6 @@ pub bounds-l-0 : goal.bounds-l-0
 bounds-l-0 c =
     let held : ReadyHeld c.args.l.now c.list-prepared.new.heads c.list-prepared.new.rows c.in-Ready.field-0.n = ready_held _ _ _ c.list-prepared.ensures c.in-Ready.is (search rules) (search rules) in
     held.count_there
-
-pub overflow_cast-l : goal.overflow_cast-l
-overflow_cast-l c =
-    omega (arith, c.shared_slice_known-in-Ready-1.given 0)
 
 pub told_of-requires : goal.told_of-requires
 told_of-requires c =
@@ -31,4 +26,3 @@ returns-in-Ready c =
     let h = held in
     let F = c.in-Ready.field-0.n in
     (ready h.js F, h.lines, c.told_of.ensures h.js F h.stand)
-

@@ -1,10 +1,8 @@
 -- `list::copy` meets its contract. The loop's invariant: the first i numbers are copied, and behind them nothing has changed.
 use mathlib.Core.Path.{refl}
-use Prim.Native.Nat.{◌≤◌, ◌-◌}
 use native.Mathlib.Nat.{le_antisymm}
 use native.Mathlib.Omega.{arith}
-use borrow.Author.Rules.{rules}
-use Rattle.shambrukit.proofs.Copied.{Copied, copied_turn, copied_length}
+use Rattle.shambrukit.proofs.Copied.{copied_turn, copied_length}
 use Rattle.shambrukit.proofs.list.copy.Goals as goal
 
 pub loop-i-init : goal.loop-i-init
@@ -26,4 +24,3 @@ shape_of-to c =
 pub returns : goal.returns
 returns c =
     rw (le_antisymm c.loop-i.invariant.0 c.loop-i-test.false) at c.loop-i.invariant.1.is
-

@@ -1,5 +1,4 @@
 -- `list::demand_of` meets its contract: 13, or the demand at the length.
-use borrow.Author.Rules.{rules}
 use mathlib.Core.Path.{sym, ap, ◌∙◌}
 use mathlib.Core.Logic.{⊎_elim}
 use Prim.Native.Nat.{◌<◌}
@@ -22,13 +21,12 @@ demand_at-sum-requires c =
 pub returns-in-Outside : goal.returns-in-Outside
 returns-in-Outside c =
     let a = c.args in
-    let above : max_ticks < a.length-asked =
-    ⊎_elim (λ h. omega arith) (λ h. h) (ticks_told 0 max_ticks a.length-asked c.length-asked.ensures c.in-Outside.is) in
-    demand_question a.length-asked above
+    let above : max_ticks < a.length =
+    ⊎_elim (λ h. omega arith) (λ h. h) (ticks_told 0 max_ticks a.length c.length-asked.ensures c.in-Outside.is) in
+    demand_question a.length above
 
 pub returns-in-Within : goal.returns-in-Within
 returns-in-Within c =
     let a = c.args in
-    let (inside, same) = ticks_told 0 max_ticks a.length-asked c.length-asked.ensures c.in-Within.is in
-    demand_value a.length-asked inside.1 (c.count.ensures ∙ c.demand_at-sum.ensures ∙ ap (demand (lent_works a.n a.heads.now a.rows.now)) same)
-
+    let (inside, same) = ticks_told 0 max_ticks a.length c.length-asked.ensures c.in-Within.is in
+    demand_value a.length inside.1 (c.count.ensures ∙ c.demand_at-sum.ensures ∙ ap (demand (lent_works a.n a.heads.now a.rows.now)) same)

@@ -1,5 +1,4 @@
 -- `list::fewest_of` meets its contract: 15, 13, or the fewest firings.
-use borrow.Author.Rules.{rules}
 use mathlib.Core.Path.{◌∙◌}
 use mathlib.Core.Logic.{⊎_elim}
 use Prim.Native.Nat.{◌+◌, ◌*◌, ◌<◌}
@@ -72,4 +71,3 @@ returns-in-Within c =
     let (inside, same) = firings_told 0 max_outputs a.k c.outputs-asked.ensures c.in-Within.is in
     fewest_value a.graph a.actor a.k c.if-n-graph.false c.if-heads-i.false inside.1 same c.of-repetition.ensures c.of-skip.ensures
     (c.count.ensures ∙ c.fewest_firings.ensures)
-

@@ -1,6 +1,5 @@
 -- `list::judge` meets its contract.
 use borrow.Author.Rules.{rules}
-use native.Mathlib.Omega.{arith}
 use mathlib.Core.Path.{refl}
 use Rattle.ready.specs.Lines.{refused, ready}
 use Rattle.shambrukit.proofs.Prepares.{ReadyHeld, refused_lines, ready_held}
@@ -11,10 +10,6 @@ pub bounds-l-0 : goal.bounds-l-0
 bounds-l-0 c =
     let held : ReadyHeld c.args.l.now c.list-prepared.new.heads c.list-prepared.new.rows c.in-Ready.frame.n = ready_held _ _ _ c.list-prepared.ensures c.in-Ready.is (search rules) (search rules) in
     held.count_there
-
-pub overflow_cast-l : goal.overflow_cast-l
-overflow_cast-l c =
-    omega (arith, c.shared_slice_known-in-Ready-1.given 0)
 
 pub verdict_of-requires : goal.verdict_of-requires
 verdict_of-requires c =
@@ -31,4 +26,3 @@ unfolding ListVerdict
 returns-in-Ready c =
     let held : ReadyHeld c.args.l.now c.list-prepared.new.heads c.list-prepared.new.rows c.in-Ready.frame.n = ready_held _ _ _ c.list-prepared.ensures c.in-Ready.is (search rules) (search rules) in
     let h = held in (ready h.js _, h.lines, c.verdict_of.ensures h.js h.stand)
-

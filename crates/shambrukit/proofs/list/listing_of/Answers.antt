@@ -1,5 +1,4 @@
 -- `list::listing_of` meets its contract: repetition numbers stand from place 32 of a row on, skips from place 64.
-use borrow.Author.Rules.{rules}
 use Rattle.shambrukit.specs.Calls.{repetition_numbers, skip_numbers}
 use Rattle.shambrukit.proofs.list.listing_of.Goals as goal
 
@@ -14,4 +13,3 @@ returns-in-Skips c =
 pub returns-in-Tasks : goal.returns-in-Tasks
 returns-in-Tasks c =
     rw c.in-Tasks.is c.tasks_of.ensures
-

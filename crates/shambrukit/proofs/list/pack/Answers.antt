@@ -15,5 +15,4 @@ returns-in-Ready c =
     let h = held in
     let F = c.in-Ready.field-0.n in
     let list = c.list in
-    (ready h.js F, h.lines, list.ensures.0 ∙ pack_whole _ _ h.js F h.lines, list.ensures.1)
-
+    (ready h.js F, h.lines, list.ensures.answer ∙ pack_whole _ _ h.js F h.lines, list.ensures.memory)

@@ -19,8 +19,7 @@ returns-then-numbers-actors c =
     listed_room a.graph _ numbers _ (omega arith) (λ js st. column_count a.graph a.room numbers c.requires.1 column (omega arith) js st) c.if-numbers-actors.true
 
 pub copy-requires : goal.copy-requires
-copy-requires c =
-    (
+copy-requires c = (
   column_room c.args.graph c.args.room c.requires.1 (omega arith) c.requires.0.1,
   search rules,
 )
@@ -32,4 +31,3 @@ returns c =
     listed_wrote a.graph _ numbers _ (omega arith) (λ js st. column_count a.graph a.room numbers c.requires.1 column (omega arith) js st)
     (search rules)
     (λ js st. c.copy.ensures ∙ ap (λ (xs : List ℕ). xs ++ drop (get_or a.heads.now (3 * a.graph + 2) 0) a.numbers.now) (column_is a.graph a.room numbers c.requires.1 column (omega arith) js st))
-

@@ -1,5 +1,4 @@
 -- `list::tasks_of` meets its contract: 15, 14, or the task list.
-use borrow.Author.Rules.{rules}
 use mathlib.Core.Path.{sym, ap, ap₂, ◌∙◌}
 use mathlib.Core.List.{List, ◌++◌}
 use Prim.Native.Nat.{ℕ}
@@ -21,7 +20,7 @@ slice_bounds-h-end c =
 pub count-count-requires : goal.count-count-requires
 count-count-requires c =
     let st = c.requires.1 in
-    (lent_held st, omega (arith, lent_graphs st, st.count-count))
+    (lent_held st, omega (arith, lent_graphs st, st.count))
 
 pub returns-then-numbers-count : goal.returns-then-numbers-count
 returns-then-numbers-count c =
@@ -32,7 +31,7 @@ returns-then-numbers-count c =
 pub list-requires : goal.list-requires
 list-requires c =
     let st = c.requires.1 in
-    (lent_held st, omega (arith, lent_graphs st, st.count-count), omega (arith, c.count-count.ensures, c.if-numbers-count.false))
+    (lent_held st, omega (arith, lent_graphs st, st.count), omega (arith, c.count-count.ensures, c.if-numbers-count.false))
 
 pub returns : goal.returns
 returns c =
@@ -42,4 +41,3 @@ returns c =
     (λ js st. count.ensures ∙ ap length (tasks_held a.graph st (omega arith))) c.if-numbers-count.false
     (λ js st. c.list.ensures ∙
     ap₂ (λ (xs : List ℕ) (k : ℕ). xs ++ drop k a.numbers.now) (tasks_held a.graph st (omega arith)) (sym count.ensures))
-

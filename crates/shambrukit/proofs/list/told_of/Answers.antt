@@ -1,5 +1,4 @@
 -- `list::told_of` meets its contract.
-use borrow.Author.Rules.{rules}
 use Rattle.shambrukit.proofs.list.told_of.Goals as goal
 
 pub returns-in-Demand : goal.returns-in-Demand
@@ -9,4 +8,3 @@ returns-in-Demand c =
 pub returns-in-Fewest : goal.returns-in-Fewest
 returns-in-Fewest c =
     rw c.in-Fewest.is c.fewest_of.ensures
-

@@ -1,5 +1,4 @@
 -- `list::verdict_of` meets its contract: 20, 21, or 0.
-use borrow.Author.Rules.{rules}
 use mathlib.Core.Path.{sym}
 use Prim.Native.Nat.{◌≤◌, ◌*◌, ◌/◌}
 use native.Mathlib.Omega.{arith}
@@ -30,7 +29,10 @@ late-found-requires c =
     let few : length (take (3 * c.args.n) c.args.heads.now) / 3 ≤ 8 = omega (arith, lent_graphs c.requires.1, c.requires.1.graphs.graphs) in
     let within : c.frame_load-load.result.n ≤ c.args.frame.n = omega (arith, c.count.ensures, c.count-2.ensures, c.if-count.false) in
     let (js, st, framed) = c.requires in
-    ((lent_held st, lent_frame st framed, framed.1, c.frame_load-load.ensures, within), (c.weigh.ensures, omega (arith, few)))
+    record {
+      lent = (lent_held st, lent_frame st framed, framed.1, c.frame_load-load.ensures, within);
+      weighed = (c.weigh.ensures, omega (arith, few));
+    }
 
 pub returns-in-At : goal.returns-in-At
 returns-in-At c =
@@ -43,4 +45,3 @@ returns-in-Never c =
     let within : c.frame_load-load.result.n ≤ c.args.frame.n = omega (arith, c.count.ensures, c.count-2.ensures, c.if-count.false) in
     λ js st.
     accepted_held st _ _ c.frame_load-load.ensures within c.in-Never.ensures
-
