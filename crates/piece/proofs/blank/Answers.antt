@@ -1,10 +1,8 @@
 -- `piece::blank` meets its contract. The loop's invariant: the pieces of the graphs passed cover no count.
 use borrow.Author.Rules.{rules}
-use mathlib.Core.Path.{◌≡◌}
-use Prim.Native.Nat.{◌-◌, ◌≤◌}
 use native.Mathlib.Omega.{arith}
-use lib.ListN.{length, length-set}
-use Rattle.piece.proofs.Pieces.{Blank, blank_start, blank_turn, blank_end}
+use lib.ListN.{length-set}
+use Rattle.piece.proofs.Pieces.{blank_start, blank_turn, blank_end}
 use Rattle.piece.proofs.blank.Goals as goal
 
 pub loop-i-init : goal.loop-i-init
@@ -34,4 +32,3 @@ loop-i-preserved c =
 pub returns : goal.returns
 returns c =
     blank_end _ c.loop-i.invariant.0 c.loop-i-test.false (omega arith)
-

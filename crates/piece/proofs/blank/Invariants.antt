@@ -1,10 +1,8 @@
 -- `piece::blank` meets its contract. The loop's invariant: the pieces of the graphs passed cover no count.
-use borrow.Author.Rules.{rules}
 use mathlib.Core.Path.{◌≡◌}
 use Prim.Native.Nat.{◌-◌, ◌≤◌}
-use native.Mathlib.Omega.{arith}
-use lib.ListN.{length, length-set}
-use Rattle.piece.proofs.Pieces.{Blank, blank_start, blank_turn, blank_end}
+use lib.ListN.{length}
+use Rattle.piece.proofs.Pieces.{Blank}
 use Rattle.piece.proofs.blank.Given as goal
 
 abbrev pub invariant-loop-i : goal.invariant-loop-i

@@ -1,5 +1,4 @@
 -- `piece::first_length` meets its contract.
-use borrow.Author.Rules.{rules}
 use native.Mathlib.Omega.{arith}
 use Rattle.piece.proofs.Pieces.{first_none, first_less, first_sum, first_some}
 use Rattle.piece.proofs.first_length.Goals as goal
@@ -19,4 +18,3 @@ overflow_add-result c =
 pub returns : goal.returns
 returns c =
     (first_some _ _ c.requires.0 c.if-k-eq0.false, first_sum _ _)
-

@@ -1,5 +1,4 @@
 -- `piece::graph_look` meets its contract.
-use borrow.Author.Rules.{rules}
 use mathlib.Core.Path.{◌∙◌, sym}
 use native.Mathlib.Omega.{arith}
 use Rattle.piece.proofs.graph_look.Goals as goal
@@ -17,4 +16,3 @@ returns-then-step_down c =
     let n = d.1 c.if-step_down.true in
     let e = c.count-t.ensures in
     (c.of-then-step_down.ensures ∙ sym (d.0.span _ s.1 _ (omega (arith, n.0, e)) (omega (arith, n.1, e))), d.0)
-

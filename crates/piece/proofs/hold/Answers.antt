@@ -36,4 +36,3 @@ returns c =
     let f = c.first_length-from.ensures in
     span_stored s.7 s.1 (level_span _ s.6 f.0 c.first_length-to.ensures.0)
     (stairs_piece _ _ _ _ _ (s.0.bounded.work _ s.1).period_low (s.7.piece _ s.1) s.5 (s.6 _ (le_refl _) s.2) f c.greater.ensures c.first_length-bottom.ensures)
-

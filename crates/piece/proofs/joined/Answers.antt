@@ -1,5 +1,4 @@
 -- `piece::joined` meets its contract.
-use borrow.Author.Rules.{rules}
 use Rattle.piece.proofs.Pieces.{joined_none, joined_idle, joined_whole, joined_busy}
 use Rattle.piece.proofs.joined.Goals as goal
 
@@ -18,4 +17,3 @@ returns-then-skip-eq0 c =
 pub returns : goal.returns
 returns c =
     joined_busy c.requires c.if-k-repetition.false c.greater.ensures
-

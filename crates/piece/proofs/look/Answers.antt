@@ -1,12 +1,8 @@
 -- `piece::look` meets its contract. The loop's invariant: the walk is at graph i, with the demand of those passed.
 use borrow.Author.Rules.{rules}
-use mathlib.Core.Path.{◌≡◌, ◌∙◌, refl}
-use Prim.Native.Nat.{◌-◌}
-use lib.ListN.{length}
+use mathlib.Core.Path.{◌∙◌, refl}
 use Rattle.sdf.specs.Sum.{sum_to}
-use Rattle.demand.specs.Lent.{works_of}
-use Rattle.piece.specs.Pieces.{Pieces}
-use Rattle.demand.proofs.Costs.{Graphs, graph_demand, graph, graphs_turn, demand_added, demand_whole}
+use Rattle.demand.proofs.Costs.{graph, graphs_turn, demand_added, demand_whole}
 use Rattle.piece.proofs.look.Goals as goal
 
 pub loop-i-init : goal.loop-i-init
@@ -33,4 +29,3 @@ loop-i-preserved c =
 pub returns : goal.returns
 returns c =
     let l = c.loop-i.invariant in (demand_whole l.0 c.loop-i-test.false l.1, l.2)
-

@@ -1,12 +1,11 @@
 -- `piece::look` meets its contract. The loop's invariant: the walk is at graph i, with the demand of those passed.
-use borrow.Author.Rules.{rules}
-use mathlib.Core.Path.{◌≡◌, ◌∙◌, refl}
+use mathlib.Core.Path.{◌≡◌}
 use Prim.Native.Nat.{◌-◌}
 use lib.ListN.{length}
 use Rattle.sdf.specs.Sum.{sum_to}
 use Rattle.demand.specs.Lent.{works_of}
 use Rattle.piece.specs.Pieces.{Pieces}
-use Rattle.demand.proofs.Costs.{Graphs, graph_demand, graph, graphs_turn, demand_added, demand_whole}
+use Rattle.demand.proofs.Costs.{Graphs, graph_demand}
 use Rattle.piece.proofs.look.Given as goal
 
 abbrev pub invariant-loop-i : goal.invariant-loop-i

@@ -28,4 +28,3 @@ pub returns : goal.returns
 returns c =
     let s = c.requires in
     pieces_stored c.straight-p.result s.3 s.1 (s.0.bounded.work _ s.1).period_low c.straight-p.ensures
-

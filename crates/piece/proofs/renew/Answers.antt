@@ -1,5 +1,4 @@
 -- `piece::renew` meets its contract.
-use borrow.Author.Rules.{rules}
 use mathlib.Core.Path.{◌∙◌, ap, sym}
 use native.Mathlib.Nat.{le_refl, le_trans, le_of_eq, le-min, min-le_left, min-le_right}
 use Rattle.units.specs.Bounds.{max_ticks}
@@ -52,4 +51,3 @@ returns c =
     let e = c.meet.ensures in
     let s = c.requires in
     (c.of-2.ensures ∙ (piece_asks (e.0.piece _ s.1) e.1 e.2).cost ∙ ap (cost _) (c.count-k.ensures ∙ c.graph_blocks.ensures), c.hold-2.ensures)
-

@@ -39,4 +39,3 @@ returns c =
     let s = c.requires in
     let r = step_stored s.1 s.0 (stepped _ s.1 s.0 (sub-add_cancel c.if-to-period.false) c.if-from-pieces.false) c.if-t-from.false c.if-to-t.false in
     (r.0, λ _. r.1)
-

@@ -1,10 +1,8 @@
 -- `piece::straight` meets its contract. The loop's invariant: the piece of the actors passed.
 use borrow.Author.Rules.{rules}
-use Prim.Native.Nat.{◌-◌}
 use native.Mathlib.Omega.{arith}
-use Rattle.demand.specs.Lent.{work_at}
-use Rattle.demand.proofs.Rows.{Walk, row_at_most, place_fits, walk_turn, place_bytes, place_there}
-use Rattle.piece.proofs.Pieces.{PieceTo, piece_start, piece_joins, piece_turn, piece_whole}
+use Rattle.demand.proofs.Rows.{row_at_most, place_fits, walk_turn, place_bytes, place_there}
+use Rattle.piece.proofs.Pieces.{piece_start, piece_joins, piece_turn, piece_whole}
 use Rattle.piece.proofs.straight.Goals as goal
 
 pub overflow_mul-first : goal.overflow_mul-first
@@ -55,4 +53,3 @@ loop-v-preserved c =
 pub returns : goal.returns
 returns c =
     piece_whole c.loop-v.invariant.0 c.loop-v.invariant.1 c.loop-v-test.false
-

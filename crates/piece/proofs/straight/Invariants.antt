@@ -1,10 +1,8 @@
 -- `piece::straight` meets its contract. The loop's invariant: the piece of the actors passed.
-use borrow.Author.Rules.{rules}
 use Prim.Native.Nat.{◌-◌}
-use native.Mathlib.Omega.{arith}
 use Rattle.demand.specs.Lent.{work_at}
-use Rattle.demand.proofs.Rows.{Walk, row_at_most, place_fits, walk_turn, place_bytes, place_there}
-use Rattle.piece.proofs.Pieces.{PieceTo, piece_start, piece_joins, piece_turn, piece_whole}
+use Rattle.demand.proofs.Rows.{Walk}
+use Rattle.piece.proofs.Pieces.{PieceTo}
 use Rattle.piece.proofs.straight.Given as goal
 
 abbrev pub invariant-loop-v : goal.invariant-loop-v
