@@ -1,6 +1,6 @@
 -- 01, answer 21: the graphs in two parts, those of the short periods and the others, and what the parts ask together.
-use mathlib.Core.Path.{◌≡◌, ◌∙◌, refl, sym}
-use mathlib.Core.Logic.{inl, inr, ⊎_elim, ⊎_map}
+use mathlib.Core.Path.{◌≡◌, ◌∙◌, refl}
+use mathlib.Core.Logic.{⊎_elim, ⊎_map}
 use mathlib.Core.List.{List}
 use Prim.Native.Nat.{ℕ, ◌+◌, ◌*◌, ◌-◌, ◌/◌, ◌<◌, ◌≤◌}
 use native.Mathlib.Nat.{dvd_refl, le_trans}

@@ -1,6 +1,4 @@
 -- `cycle::ease` meets its contract.
-use borrow.Author.Rules.{rules}
-use borrow.Author.Tests.{not-false}
 use mathlib.Core.Path.{sym}
 use native.Mathlib.Omega.{arith}
 use Rattle.demand.specs.Lent.{Lent}
@@ -9,16 +7,16 @@ use Rattle.late.proofs.cycle.ease.Goals as goal
 
 pub pays-requires : goal.pays-requires
 pays-requires c =
-    (c.requires.lent.0.bounded.work i l).period_low
+    λ i l. (c.requires.lent.0.bounded.work i l).period_low
 
 pub returns-then-not-pays : goal.returns-then-not-pays
 returns-then-not-pays c =
-    absurd (omega (arith, c.none.ensures))
+    λ p. absurd (omega (arith, p, c.none.ensures))
 
 pub split-requires : goal.split-requires
 split-requires c =
-    let p = c.requires in
-    ((p.0.1, p.0.2), λ i l. (p.0.0.bounded.work i l).period_low)
+    let p = c.requires.lent in
+    record { short_len = (p.1, p.2); by_index = λ i l. (p.0.bounded.work i l).period_low }
 
 pub weigh-requires : goal.weigh-requires
 weigh-requires c =
@@ -32,7 +30,7 @@ frame_load-requires c =
 
 pub returns-then-count-load : goal.returns-then-count-load
 returns-then-count-load c =
-    absurd (omega (arith, c.none-then-count-load.ensures))
+    λ p. absurd (omega (arith, p, c.none-then-count-load.ensures))
 
 pub blank-requires : goal.blank-requires
 blank-requires c =
@@ -54,7 +52,7 @@ shape_of-long-then-not-fill c =
 
 pub returns-then-not-fill : goal.returns-then-not-fill
 returns-then-not-fill c =
-    absurd (omega (arith, c.none-then-not-fill.ensures))
+    λ p. absurd (omega (arith, p, c.none-then-not-fill.ensures))
 
 pub blank-requires-2 : goal.blank-requires-2
 blank-requires-2 c =
@@ -74,14 +72,12 @@ shape_of-weight c =
 
 pub returns : goal.returns
 returns c =
-    let f = c.fill in
-    let m = c.frame_load.ensures in
     let p = c.requires in
-    let n = c.length_of-length.ensures in (
-      eased _ (sym c.count-2.ensures) p.0.0 c.split.ensures n.0 n.1
-          (omega (arith, f.auto.1.1.1.1.1.1.1.0, p.1.3))
-          (f.ensures c.if-not-fill.false)
-          (omega (arith, c.count-3.ensures, c.count-load.ensures, m, c.count.ensures, c.if-count-load.left)),
+    let n = c.length_of-length.ensures in
+    λ _. (
+      eased _ (sym c.count-2.ensures) p.lent.0 c.split.ensures n.0 n.1
+          (omega (arith, c.fill.auto.floors, p.heads_in_bounds.3))
+          (c.fill.ensures c.if-not-fill.false)
+          (omega (arith, c.count-3.ensures, c.count-load.ensures, c.frame_load.ensures, c.count.ensures, c.if-count-load.false)),
       c.blank-2.ensures,
     )
-

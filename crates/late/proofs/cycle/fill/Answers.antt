@@ -1,12 +1,9 @@
 -- `cycle::fill` meets its contract. The loop's invariant: the table is filled from `at` on, and the pieces are pieces.
 use borrow.Author.Rules.{rules}
-use mathlib.Core.Path.{◌≡◌, sym}
+use mathlib.Core.Path.{sym}
 use mathlib.Core.Bool.{true≢false}
 use native.Mathlib.Omega.{arith}
-use lib.ListN.{length}
-use Rattle.demand.specs.Lent.{works_of}
-use Rattle.piece.specs.Pieces.{Pieces}
-use Rattle.late.proofs.Cycles.{Filling, filling_start, filling_turn, filling_end}
+use Rattle.late.proofs.Cycles.{filling_start, filling_turn, filling_end}
 use Rattle.late.proofs.cycle.fill.Goals as goal
 
 pub loop-at-init : goal.loop-at-init
@@ -15,7 +12,7 @@ loop-at-init c =
 
 pub returns-then-at-asks : goal.returns-then-at-asks
 returns-then-at-asks c =
-    absurd (true≢false (sym e))
+    λ e. absurd (true≢false (sym e))
 
 pub loop-at-preserved : goal.loop-at-preserved
 loop-at-preserved c =
@@ -30,5 +27,4 @@ loop-at-preserved c =
 
 pub returns : goal.returns
 returns c =
-    filling_end c.loop-at.invariant.0 c.loop-at-test.false
-
+    λ _. filling_end c.loop-at.invariant.0 c.loop-at-test.false

@@ -1,12 +1,9 @@
 -- `cycle::fill` meets its contract. The loop's invariant: the table is filled from `at` on, and the pieces are pieces.
-use borrow.Author.Rules.{rules}
-use mathlib.Core.Path.{◌≡◌, sym}
-use mathlib.Core.Bool.{true≢false}
-use native.Mathlib.Omega.{arith}
+use mathlib.Core.Path.{◌≡◌}
 use lib.ListN.{length}
 use Rattle.demand.specs.Lent.{works_of}
 use Rattle.piece.specs.Pieces.{Pieces}
-use Rattle.late.proofs.Cycles.{Filling, filling_start, filling_turn, filling_end}
+use Rattle.late.proofs.Cycles.{Filling}
 use Rattle.late.proofs.cycle.fill.Given as goal
 
 abbrev pub invariant-loop-at : goal.invariant-loop-at

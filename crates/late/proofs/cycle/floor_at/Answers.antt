@@ -1,5 +1,4 @@
 -- `cycle::floor_at` meets its contract.
-use borrow.Author.Rules.{rules}
 use mathlib.Core.Path.{refl}
 use Prim.Native.Nat.{◌%◌}
 use native.Mathlib.Nat.{mod-lt, min-le_left}
@@ -17,15 +16,15 @@ bounds-floors-a c =
 
 pub overflow_cast-floors : goal.overflow_cast-floors
 overflow_cast-floors c =
-    omega (arith, c.shared_slice_known-2-1.given (c.count-a.result % c.args.cycle.length))
+    omega (arith, c.type_inv.floors (c.count-a.result % c.args.cycle.length))
 
 pub overflow_cast-floors-2 : goal.overflow_cast-floors-2
 overflow_cast-floors-2 c =
-    omega (arith, c.shared_slice_known-3-1.given 0)
+    omega (arith, c.type_inv.floors 0)
 
 pub overflow_add-cycle : goal.overflow_add-cycle
 overflow_add-cycle c =
-    omega (arith, c.shared_slice_known-3-1.given 0)
+    omega (arith, c.type_inv.floors 0)
 
 pub overflow_mul-a : goal.overflow_mul-a
 overflow_mul-a c =
@@ -37,7 +36,7 @@ overflow_add-a c =
       arith,
       rests_high c.count-a.result c.requires.3,
       min-le_left c.of-here.result.n c.of-next.result.n,
-      c.shared_slice_known-2-1.given (c.count-a.result % c.args.cycle.length),
+      c.type_inv.floors (c.count-a.result % c.args.cycle.length),
     )
 
 pub returns : goal.returns
@@ -45,4 +44,3 @@ returns c =
     rw
     (c.of.ensures, c.count.ensures, c.sooner.ensures, c.of-here.ensures, c.of-next.ensures, c.count-a.ensures)
     refl
-

@@ -1,6 +1,5 @@
 -- `cycle::lay` meets its contract.
 use borrow.Author.Rules.{rules}
-use native.Mathlib.Omega.{arith}
 use lib.ListN.{length-set}
 use Rattle.late.proofs.Parts.{laid}
 use Rattle.late.proofs.cycle.lay.Goals as goal
@@ -16,4 +15,3 @@ bounds-to-h-3 c =
 pub returns : goal.returns
 returns c =
     laid _ _ _ _ c.requires.1
-

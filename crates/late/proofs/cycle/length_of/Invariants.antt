@@ -1,5 +1,4 @@
 -- `cycle::length_of` meets its contract. The loop's invariant: the multiple so far is positive and within the longest cycle.
-use borrow.Author.Rules.{rules}
 use Prim.Native.Nat.{◌-◌, ◌<◌, ◌≤◌}
 use Rattle.late.specs.Cycle.{max_cycle}
 use Rattle.late.proofs.cycle.length_of.Given as goal

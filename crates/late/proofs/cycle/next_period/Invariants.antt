@@ -1,8 +1,5 @@
 -- `cycle::next_period` meets its contract. The loop's invariant: the shortest period so far is positive and within the bound.
-use borrow.Author.Rules.{rules}
-use mathlib.Core.Logic.{⊎_elim}
 use Prim.Native.Nat.{◌+◌, ◌-◌, ◌<◌, ◌≤◌}
-use native.Mathlib.Omega.{arith}
 use Rattle.late.specs.Cycle.{max_cycle}
 use Rattle.late.proofs.cycle.next_period.Given as goal
 

@@ -1,7 +1,5 @@
 -- `cycle::pays` meets its contract.
-use borrow.Author.Rules.{rules}
 use Prim.Native.Nat.{◌-◌, ◌≤◌}
-use native.Mathlib.Omega.{arith}
 use Rattle.late.proofs.cycle.pays.Given as goal
 
 abbrev pub invariant-loop-i : goal.invariant-loop-i

@@ -1,6 +1,5 @@
 -- `cycle::short_actors` meets its contract.
-use borrow.Author.Rules.{rules}
-use mathlib.Core.Path.{◌≡◌, ◌∙◌, refl, sym}
+use mathlib.Core.Path.{refl}
 use mathlib.Core.Logic.{inl, inr}
 use native.Mathlib.Nat.{dvd_of_mod-eq-zero}
 use Rattle.late.proofs.cycle.short_actors.Goals as goal
@@ -12,4 +11,3 @@ returns-then-count-heads-eq0 c =
 pub returns : goal.returns
 returns c =
     inr refl
-

@@ -1,10 +1,7 @@
 -- `cycle::split` meets its contract. The loop's invariant: the graphs passed are in the parts.
 use borrow.Author.Rules.{rules}
-use mathlib.Core.Path.{◌≡◌, ◌∙◌, refl}
-use Prim.Native.Nat.{◌-◌, ◌≤◌}
+use mathlib.Core.Path.{◌∙◌, refl}
 use native.Mathlib.Omega.{arith}
-use lib.ListN.{length}
-use Rattle.late.specs.Cycle.{Parted}
 use Rattle.late.proofs.Parts.{parted_start, parted_turn, parted_end, parting_few}
 use Rattle.late.proofs.cycle.split.Goals as goal
 
@@ -31,4 +28,3 @@ loop-i-preserved c =
 pub returns : goal.returns
 returns c =
     let l = c.loop-i.invariant in parted_end l.0 refl l.1 c.loop-i-test.false (omega arith) (omega arith)
-

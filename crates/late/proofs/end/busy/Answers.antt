@@ -1,9 +1,6 @@
 -- `end::busy` meets its contract. The loop's invariant: `so_far` is the frame of the periods passed that count.
 use borrow.Author.Rules.{rules}
-use Prim.Native.Nat.{◌-◌, ◌/◌}
-use lib.ListN.{length}
-use Rattle.late.specs.Search.{busy_period}
-use Rattle.demand.proofs.Multiples.{Frames, frames_start, frames_turn}
+use Rattle.demand.proofs.Multiples.{frames_start, frames_turn}
 use Rattle.late.proofs.Busy.{frame_carries, busy_bounds, busy_carries}
 use Rattle.late.proofs.end.busy.Goals as goal
 
@@ -38,4 +35,3 @@ loop-i-preserved c =
 pub returns : goal.returns
 returns c =
     busy_carries c.args.heads.now c.args.weight.now c.loop-i.invariant c.loop-i-test.false c.requires.1
-

@@ -1,10 +1,8 @@
 -- `end::busy` meets its contract. The loop's invariant: `so_far` is the frame of the periods passed that count.
-use borrow.Author.Rules.{rules}
 use Prim.Native.Nat.{◌-◌, ◌/◌}
 use lib.ListN.{length}
 use Rattle.late.specs.Search.{busy_period}
-use Rattle.demand.proofs.Multiples.{Frames, frames_start, frames_turn}
-use Rattle.late.proofs.Busy.{frame_carries, busy_bounds, busy_carries}
+use Rattle.demand.proofs.Multiples.{Frames}
 use Rattle.late.proofs.end.busy.Given as goal
 
 abbrev pub invariant-loop-i : goal.invariant-loop-i

@@ -1,5 +1,4 @@
 -- `end::busy_load` meets its contract.
-use borrow.Author.Rules.{rules}
 use mathlib.Core.Path.{◌∙◌, ap}
 use native.Mathlib.Omega.{arith}
 use Rattle.edf.specs.Demand.{load}
@@ -8,4 +7,3 @@ use Rattle.late.proofs.end.busy_load.Goals as goal
 pub returns-then-count : goal.returns-then-count
 returns-then-count c =
     c.requires.3 ∙ ap (load _) (omega arith)
-

@@ -1,5 +1,4 @@
 -- `end::busy_period` meets its contract.
-use borrow.Author.Rules.{rules}
 use mathlib.Core.Path.{◌∙◌}
 use Rattle.late.proofs.Busy.{counted_none, counted_whole}
 use Rattle.late.proofs.end.busy_period.Goals as goal
@@ -11,4 +10,3 @@ returns-then-weight-i-eq0 c =
 pub returns : goal.returns
 returns c =
     c.of-2.ensures ∙ counted_whole _ _ c.if-weight-i-eq0.false
-

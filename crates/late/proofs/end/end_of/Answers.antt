@@ -1,5 +1,4 @@
 -- `end::end_of` meets its contract.
-use borrow.Author.Rules.{rules}
 use native.Mathlib.Omega.{arith}
 use native.Mathlib.Nat.{div-le_self}
 use Prim.Native.Nat.{◌-◌}
@@ -21,4 +20,3 @@ overflow_add-surplus c =
 pub returns : goal.returns
 returns c =
     rw (c.sooner.ensures, c.of-2.ensures, c.count-l.ensures, c.count-f.ensures) (end_least (omega arith) (omega arith))
-

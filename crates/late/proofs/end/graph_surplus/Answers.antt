@@ -1,5 +1,4 @@
 -- `end::graph_surplus` meets its contract.
-use borrow.Author.Rules.{rules}
 use native.Mathlib.Nat.{le_of_lt}
 use native.Mathlib.Omega.{arith}
 use Rattle.late.proofs.Ending.{share_high, surplus_none, surplus_fits}
@@ -24,4 +23,3 @@ overflow_mul-result-2 c =
 pub returns : goal.returns
 returns c =
     rw c.count.ensures
-

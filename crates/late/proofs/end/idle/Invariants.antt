@@ -1,5 +1,4 @@
 -- `end::idle` meets its contract. The loop's invariant: the place is at most n.
-use borrow.Author.Rules.{rules}
 use Prim.Native.Nat.{◌-◌, ◌≤◌}
 use Rattle.late.proofs.end.idle.Given as goal
 

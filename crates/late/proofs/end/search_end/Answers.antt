@@ -10,7 +10,7 @@ busy-span-requires c =
 
 pub busy_load-share-requires : goal.busy_load-share-requires
 busy_load-share-requires c =
-    let e = c.requires in let s = e.0 in (s.0, e.1, span_high c.busy-span.ensures s.1.positive s.2, s.3)
+    let e = c.requires in let s = e.lent in (s.0, e.weighed, span_high c.busy-span.ensures s.1.positive s.2, s.3)
 
 pub surplus_of-requires : goal.surplus_of-requires
 surplus_of-requires c =
@@ -35,4 +35,3 @@ returns c =
     let high = span_high c.busy-span.ensures s.1.positive s.2 in
     let fits = span_load a.heads.now a.times.now a.q.now a.s.now a.room c.requires.weighed c.busy-span.ensures s.1.positive s.3 s.4 c.busy_load-share.ensures in
     search_ends a.heads.now a.times.now a.q.now a.s.now a.room c.requires.weighed c.busy-span.ensures high c.busy_load-share.ensures fits c.surplus_of.ensures c.end_of.ensures
-

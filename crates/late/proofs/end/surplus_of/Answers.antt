@@ -1,10 +1,8 @@
 -- `end::surplus_of` meets its contract. The loop's invariant: the sum over the graphs passed.
 use borrow.Author.Rules.{rules}
-use mathlib.Core.Path.{◌≡◌, ◌∙◌, ap}
-use Prim.Native.Nat.{◌-◌, ◌≤◌}
+use mathlib.Core.Path.{◌∙◌, ap}
 use native.Mathlib.Omega.{arith}
 use Rattle.sdf.specs.Sum.{sum_to}
-use Rattle.late.specs.Search.{graph_surplus}
 use Rattle.late.proofs.Ending.{surplus_added}
 use Rattle.late.proofs.end.surplus_of.Goals as goal
 
@@ -24,4 +22,3 @@ loop-i-preserved c =
 pub returns : goal.returns
 returns c =
     c.loop-i.invariant.1 ∙ ap (sum_to _) (omega arith)
-

@@ -1,11 +1,8 @@
 -- `end::surplus_of` meets its contract. The loop's invariant: the sum over the graphs passed.
-use borrow.Author.Rules.{rules}
-use mathlib.Core.Path.{◌≡◌, ◌∙◌, ap}
+use mathlib.Core.Path.{◌≡◌}
 use Prim.Native.Nat.{◌-◌, ◌≤◌}
-use native.Mathlib.Omega.{arith}
 use Rattle.sdf.specs.Sum.{sum_to}
 use Rattle.late.specs.Search.{graph_surplus}
-use Rattle.late.proofs.Ending.{surplus_added}
 use Rattle.late.proofs.end.surplus_of.Given as goal
 
 abbrev pub invariant-loop-i : goal.invariant-loop-i

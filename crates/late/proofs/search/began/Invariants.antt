@@ -1,7 +1,5 @@
 -- `search::began` meets its contract. The loop's invariant: the walk is at graph i.
-use borrow.Author.Rules.{rules}
 use Prim.Native.Nat.{◌-◌, ◌≤◌}
-use native.Mathlib.Nat.{min-le_right}
 use Rattle.late.proofs.search.began.Given as goal
 
 abbrev pub invariant-loop-i : goal.invariant-loop-i

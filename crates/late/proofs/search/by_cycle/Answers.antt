@@ -1,5 +1,4 @@
 -- `search::by_cycle` meets its contract.
-use borrow.Author.Rules.{rules}
 use native.Mathlib.Omega.{arith}
 use Rattle.late.proofs.search.by_cycle.Goals as goal
 
@@ -34,4 +33,3 @@ pub returns-in-Open : goal.returns-in-Open
 returns-in-Open c =
     let more = c.in-Open.ensures in
     absurd (omega (arith, more, c.requires.lent.1))
-

@@ -1,5 +1,4 @@
 -- `search::far` meets its contract.
-use borrow.Author.Rules.{rules}
 use mathlib.Core.Path.{sym}
 use native.Mathlib.Omega.{arith}
 use Rattle.late.proofs.Searching.{rows_long, rows_graphs}
@@ -22,4 +21,3 @@ by_cycle-requires c =
       lent = (s.0, s.1, s.2, rows_graphs _ _ (omega (arith, few)), rows_graphs _ _ (omega (arith, few)));
       heads_in_bounds = (few, s.3, omega (arith, few), omega arith);
     }
-

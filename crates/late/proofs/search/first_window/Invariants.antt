@@ -1,8 +1,5 @@
 -- `search::first_window` meets its contract. The loop's invariant: the greatest deadline so far is positive and within the bound.
-use borrow.Author.Rules.{rules}
 use Prim.Native.Nat.{◌-◌, ◌<◌, ◌≤◌}
-use native.Mathlib.Nat.{max-le, le-max_left, min-le_left}
-use native.Mathlib.Omega.{arith}
 use Rattle.units.specs.Bounds.{max_ticks}
 use Rattle.late.proofs.search.first_window.Given as goal
 

@@ -1,5 +1,4 @@
 -- `search::glance` meets its contract.
-use borrow.Author.Rules.{rules}
 use Prim.Native.Nat.{◌<◌}
 use native.Mathlib.Omega.{arith}
 use Rattle.late.proofs.Glances.{glanced, glanced_eased}
@@ -34,4 +33,3 @@ returns-then-count c =
     let positive : 0 < c.args.cycle.length = omega arith in
     let l = c.look-asks.ensures in
     (glanced_eased (c.requires.3 positive).0 l.0 (omega arith), λ _. l.1)
-

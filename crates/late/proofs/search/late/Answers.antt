@@ -1,5 +1,4 @@
 -- `search::late` meets its contract.
-use borrow.Author.Rules.{rules}
 use native.Mathlib.Omega.{arith}
 use Rattle.late.proofs.Ending.{end_answers}
 use Rattle.late.proofs.search.late.Goals as goal
@@ -10,15 +9,15 @@ search-found-requires c =
     let s = c.requires in
     let first = c.first_window-first.ensures in
     let none = c.none.ensures in
-    (s.0.0, c.search_end-end.ensures.high, first.0, first.1, s.1.0, c.blank.ensures, (λ p. absurd (omega (arith, p, none))))
+    (s.lent.0, c.search_end-end.ensures.high, first.0, first.1, s.weighed.0, c.blank.ensures, (λ p. absurd (omega (arith, p, none))))
 
 pub far-requires : goal.far-requires
 far-requires c =
     let s = c.requires in (
-      s.0.0,
+      s.lent.0,
       c.search_end-end.ensures.high,
-      s.1.0,
-      omega (arith, c.search-found.auto.pieces, c.blank.auto.pieces, s.1.1),
+      s.weighed.0,
+      omega (arith, c.search-found.auto.pieces, c.blank.auto.pieces, s.weighed.1),
     )
 
 pub returns-in-At : goal.returns-in-At
@@ -33,4 +32,3 @@ returns-in-Never c =
 pub returns-in-Open : goal.returns-in-Open
 returns-in-Open c =
     end_answers c.search_end-end.ensures c.far.result c.far.ensures
-

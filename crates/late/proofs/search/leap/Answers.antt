@@ -13,4 +13,3 @@ returns-then-count c =
 pub returns : goal.returns
 returns c =
     (leapt_demand _ c.look.ensures.0, search rules, search rules)
-

@@ -1,12 +1,8 @@
 -- `search::search` meets its contract. The loop's invariant: the lengths below low are within, and high is a late one or the end.
 use borrow.Author.Rules.{rules}
-use mathlib.Core.Path.{◌≡◌, ◌∙◌}
-use Prim.Native.Nat.{◌-◌, ◌<◌}
+use mathlib.Core.Path.{◌∙◌}
 use native.Mathlib.Omega.{arith}
-use lib.ListN.{length}
-use Rattle.demand.specs.Lent.{works_of}
-use Rattle.piece.specs.Pieces.{Pieces}
-use Rattle.late.proofs.Searching.{Searching, searching_start, searching_late, searching_within, searching_found, searching_none}
+use Rattle.late.proofs.Searching.{searching_start, searching_late, searching_within, searching_found, searching_none}
 use Rattle.late.proofs.search.search.Goals as goal
 
 pub loop-cycle-init : goal.loop-cycle-init
@@ -41,9 +37,9 @@ loop-cycle-smaller-in-At c =
 pub loop-cycle-preserved-in-At : goal.loop-cycle-preserved-in-At
 loop-cycle-preserved-in-At c =
     let found = rw c.in-At.is at c.settle-settled.ensures.0 in
-    let kept = c.settle-settled.auto.1.1.1.1.1.1.1.1.1.1.1.1 in
+    let kept = c.settle-settled.auto in
     let next = searching_late c.loop-cycle.invariant.2 c.window-mid.ensures.1 found in
-    (c.settle-settled.ensures.1, c.settle-settled.ensures.2, next, kept.0 ∙ c.loop-cycle.invariant.3, kept.1.0 ∙ c.loop-cycle.invariant.4)
+    (c.settle-settled.ensures.1, c.settle-settled.ensures.2, next, kept.pieces ∙ c.loop-cycle.invariant.3, kept.spans ∙ c.loop-cycle.invariant.4)
 
 pub loop-cycle-smaller : goal.loop-cycle-smaller
 loop-cycle-smaller c =
@@ -52,9 +48,9 @@ loop-cycle-smaller c =
 pub loop-cycle-preserved : goal.loop-cycle-preserved
 loop-cycle-preserved c =
     let none = rw c.in-Never.is at c.settle-settled.ensures.0 in
-    let kept = c.settle-settled.auto.1.1.1.1.1.1.1.1.1.1.1.1 in
+    let kept = c.settle-settled.auto in
     let next = searching_within c.loop-cycle.invariant.2 c.window-mid.ensures.1 none in
-    (c.settle-settled.ensures.1, c.settle-settled.ensures.2, next, kept.0 ∙ c.loop-cycle.invariant.3, kept.1.0 ∙ c.loop-cycle.invariant.4)
+    (c.settle-settled.ensures.1, c.settle-settled.ensures.2, next, kept.pieces ∙ c.loop-cycle.invariant.3, kept.spans ∙ c.loop-cycle.invariant.4)
 
 pub returns-then-found : goal.returns-then-found
 returns-then-found c =
@@ -65,4 +61,3 @@ pub returns : goal.returns
 returns c =
     searching_none c.loop-cycle.invariant.2
     (omega (arith, c.loop-cycle-test.false, c.count.ensures, c.count-in-loop-cycle.ensures)) c.if-found.false
-

@@ -1,12 +1,10 @@
 -- `search::search` meets its contract. The loop's invariant: the lengths below low are within, and high is a late one or the end.
-use borrow.Author.Rules.{rules}
-use mathlib.Core.Path.{◌≡◌, ◌∙◌}
+use mathlib.Core.Path.{◌≡◌}
 use Prim.Native.Nat.{◌-◌, ◌<◌}
-use native.Mathlib.Omega.{arith}
 use lib.ListN.{length}
 use Rattle.demand.specs.Lent.{works_of}
 use Rattle.piece.specs.Pieces.{Pieces}
-use Rattle.late.proofs.Searching.{Searching, searching_start, searching_late, searching_within, searching_found, searching_none}
+use Rattle.late.proofs.Searching.{Searching}
 use Rattle.late.proofs.search.search.Given as goal
 
 abbrev pub invariant-loop-cycle : goal.invariant-loop-cycle

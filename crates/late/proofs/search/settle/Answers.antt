@@ -1,12 +1,6 @@
 -- `search::settle` meets its contract. The loop's invariant: no length from e on is late, and each look took off a length at least.
 use borrow.Author.Rules.{rules}
-use mathlib.Core.Path.{◌≡◌}
-use Prim.Native.Nat.{◌+◌, ◌<◌, ◌≤◌}
 use native.Mathlib.Omega.{arith}
-use lib.ListN.{length}
-use Rattle.demand.specs.Lent.{works_of}
-use Rattle.piece.specs.Pieces.{Pieces}
-use Rattle.late.specs.Search.{WithinFrom}
 use Rattle.late.proofs.Searching.{within_leap}
 use Rattle.late.proofs.search.settle.Goals as goal
 
@@ -48,4 +42,3 @@ loop-e-preserved c =
 pub returns : goal.returns
 returns c =
     ((λ t a b. c.loop-e.invariant.2 t (omega arith) (omega arith)), c.loop-e.invariant.0, c.loop-e.invariant.1)
-

@@ -1,13 +1,11 @@
 -- `search::whole` meets its contract. The loop's invariant: the walk is at graph i, with what those passed ask as if nothing were
 -- skipped.
 use borrow.Author.Rules.{rules}
-use mathlib.Core.Path.{◌≡◌, ◌∙◌, refl}
-use Prim.Native.Nat.{◌-◌}
+use mathlib.Core.Path.{◌∙◌, refl}
 use native.Mathlib.Omega.{arith}
 use Rattle.sdf.specs.Sum.{sum_to}
-use Rattle.demand.specs.Lent.{works_of, Weighed}
-use Rattle.demand.proofs.Costs.{Graphs, graph, bounded, graphs_turn}
-use Rattle.late.proofs.Glances.{graph_whole, whole_added, whole_above}
+use Rattle.demand.proofs.Costs.{graph, bounded, graphs_turn}
+use Rattle.late.proofs.Glances.{whole_added, whole_above}
 use Rattle.late.proofs.search.whole.Goals as goal
 
 pub loop-i-init : goal.loop-i-init
@@ -50,4 +48,3 @@ loop-i-preserved c =
 pub returns : goal.returns
 returns c =
     let l = c.loop-i.invariant in whole_above l.0 c.loop-i-test.false l.1
-

@@ -1,13 +1,11 @@
 -- `search::whole` meets its contract. The loop's invariant: the walk is at graph i, with what those passed ask as if nothing were
 -- skipped.
-use borrow.Author.Rules.{rules}
-use mathlib.Core.Path.{◌≡◌, ◌∙◌, refl}
+use mathlib.Core.Path.{◌≡◌}
 use Prim.Native.Nat.{◌-◌}
-use native.Mathlib.Omega.{arith}
 use Rattle.sdf.specs.Sum.{sum_to}
 use Rattle.demand.specs.Lent.{works_of, Weighed}
-use Rattle.demand.proofs.Costs.{Graphs, graph, bounded, graphs_turn}
-use Rattle.late.proofs.Glances.{graph_whole, whole_added, whole_above}
+use Rattle.demand.proofs.Costs.{Graphs}
+use Rattle.late.proofs.Glances.{graph_whole}
 use Rattle.late.proofs.search.whole.Given as goal
 
 abbrev pub invariant-loop-i : goal.invariant-loop-i
