@@ -1,5 +1,4 @@
 -- What the search for the smallest late length answers.
-use Rattle.std.specs.Prelude.{ℕ}
 use Rattle.edf.specs.Demand.{Works, LateLength}
 use Rattle.edf.specs.Demand.{Within as AllWithin}
 use Rattle.late.specs.declared.Lateness.{Lateness}

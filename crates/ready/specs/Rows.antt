@@ -2,11 +2,10 @@
 -- 96 places: 32 for worst-case times, 32 for repetition numbers, 32 for skips.
 use Rattle.std.specs.Prelude.{◌≡◌, List, ℕ, ◌+◌, ◌*◌, ◌<◌, ◌≤◌, length, get_or, take, drop}
 use Rattle.edf.specs.Bounds.{Bounded}
-use Rattle.sheet.specs.declared.Refusal.{Refusal}
 use Rattle.ready.specs.declared.Prepared.{Prepared}
 use Rattle.ready.specs.declared.Prepared.TheVariants.{Ready, Refused}
 use Rattle.ready.specs.Graphs.{Judged, nothing, work_of}
-use Rattle.ready.specs.Lines.{Outcome, refused, ready, list_lines}
+use Rattle.ready.specs.Lines.{refused, ready, list_lines}
 
 -- Graph i stands in its places.
 pub record Row (j : Judged) (heads rows : List ℕ) (i : ℕ) : Type 0 where
