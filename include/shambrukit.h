@@ -1,7 +1,7 @@
 /* Shambrukit: load sheets judged before they go out.
  *
- * Link with libshambrukit.a (rt staticlib shambrukit). Every call takes any bytes, any numbers and any lengths; NULL with
- * a length of 0 is an empty input. Every call returns. A call that is refused writes nothing and returns its answer and place.
+ * Link with libshambrukit.a (README.md, "For C"). Every call takes any bytes, any numbers and any lengths; NULL with a length
+ * of 0 is an empty input. Every call returns. A call that is refused writes nothing and returns its answer and place.
  *
  * answer
  *    0  accepted: in a verdict, the sheet fits; in any other call, no refusal applies

@@ -7,7 +7,7 @@ ghost use Rattle.trial.specs.Flat.{graph_of};
 ghost use Rattle.graphs.specs.Small.{Small};
 
 use graph::GraphAnswer;
-use libc::STDOUT_FILENO;
+use std::io;
 
 // 01's number of the answer.
 fn number(answer: GraphAnswer) -> u64 {
@@ -22,18 +22,22 @@ fn number(answer: GraphAnswer) -> u64 {
 }
 
 // The first n values.
-fn print(values: &[u64], n: usize)
+fn print(rt: &impl Print, values: &[u64], n: usize) -> io::Result<()>
     requires { n ≤ length values.now }
 {
-    let mut i = 0;
-    while i < n {
-        io::write_all(STDOUT_FILENO, b" ");
-        io::print_decimal(STDOUT_FILENO, values[i]);
-        i += 1;
+    for value in &values[..n] {
+        print!(rt; " {value}")?;
     }
+    Ok(())
 }
 
-fn judge(actors: usize, input: usize, output: usize, channels: &[u32])
+fn judge(
+    rt: &impl Print,
+    actors: usize,
+    input: usize,
+    output: usize,
+    channels: &[u32],
+) -> io::Result<()>
     requires { Small (graph_of actors input output channels.now) }
 {
     let mut q = [0u64; 3];
@@ -66,29 +70,30 @@ fn judge(actors: usize, input: usize, output: usize, channels: &[u32])
         &mut out,
         &mut hints,
     ));
-    io::print_decimal(STDOUT_FILENO, answer);
+    print!(rt; "{answer}")?;
     if answer == 0 {
-        print(&q, actors);
-        print(&s, actors);
+        print(rt, &q, actors)?;
+        print(rt, &s, actors)?;
     }
-    io::write_all(STDOUT_FILENO, b"\n");
+    println!(rt;)
 }
 
 // Actors, input, output; then the channels: tail, head, produce, consume, tokens.
-fn main() {
-    judge(3, 0, 2, &[0, 1, 3, 1, 0, 1, 2, 1, 3, 0]); // the chain
-    judge(3, 0, 2, &[0, 1, 3, 1, 0, 1, 2, 1, 3, 2]); // C1
-    judge(3, 0, 2, &[0, 1, 3, 1, 0, 1, 2, 1, 3, 3]); // C3
-    judge(2, 0, 1, &[0, 1, 1, 1, 0, 1, 0, 1, 1, 0]); // E1
-    judge(2, 0, 1, &[0, 1, 1, 1, 0, 1, 0, 1, 1, 1]); // E2
-    judge(2, 0, 1, &[0, 1, 1, 1, 0, 0, 1, 2, 1, 0]); // F1
-    judge(2, 0, 1, &[0, 1, 2, 3, 0]); // F2
-    judge(3, 0, 2, &[0, 1, 4096, 1, 0, 1, 2, 1, 4096, 0]); // F3
-    judge(3, 0, 2, &[0, 1, 4096, 1, 0, 1, 2, 2, 1, 0]); // F4
-    judge(2, 0, 1, &[]); // F5
-    judge(2, 0, 1, &[0, 1, 1, 1, 0, 0, 1, 1, 1, 0]); // two equal channels
-    judge(2, 0, 1, &[0, 1, 1, 1, 0, 1, 1, 2, 2, 0]); // a self-loop without tokens
-    judge(2, 0, 1, &[0, 1, 1, 1, 0, 1, 1, 2, 2, 2]); // and with
-    judge(1, 0, 0, &[]); // one actor, no channel
-    judge(2, 0, 0, &[0, 1, 2, 1, 0, 1, 0, 1, 2, 2]); // a ring, input and output one actor
+fn main(rt: HostRuntime) -> io::Result<()> {
+    judge(&rt, 3, 0, 2, &[0, 1, 3, 1, 0, 1, 2, 1, 3, 0])?; // the chain
+    judge(&rt, 3, 0, 2, &[0, 1, 3, 1, 0, 1, 2, 1, 3, 2])?; // C1
+    judge(&rt, 3, 0, 2, &[0, 1, 3, 1, 0, 1, 2, 1, 3, 3])?; // C3
+    judge(&rt, 2, 0, 1, &[0, 1, 1, 1, 0, 1, 0, 1, 1, 0])?; // E1
+    judge(&rt, 2, 0, 1, &[0, 1, 1, 1, 0, 1, 0, 1, 1, 1])?; // E2
+    judge(&rt, 2, 0, 1, &[0, 1, 1, 1, 0, 0, 1, 2, 1, 0])?; // F1
+    judge(&rt, 2, 0, 1, &[0, 1, 2, 3, 0])?; // F2
+    judge(&rt, 3, 0, 2, &[0, 1, 4096, 1, 0, 1, 2, 1, 4096, 0])?; // F3
+    judge(&rt, 3, 0, 2, &[0, 1, 4096, 1, 0, 1, 2, 2, 1, 0])?; // F4
+    judge(&rt, 2, 0, 1, &[])?; // F5
+    judge(&rt, 2, 0, 1, &[0, 1, 1, 1, 0, 0, 1, 1, 1, 0])?; // two equal channels
+    judge(&rt, 2, 0, 1, &[0, 1, 1, 1, 0, 1, 1, 2, 2, 0])?; // a self-loop without tokens
+    judge(&rt, 2, 0, 1, &[0, 1, 1, 1, 0, 1, 1, 2, 2, 2])?; // and with
+    judge(&rt, 1, 0, 0, &[])?; // one actor, no channel
+    judge(&rt, 2, 0, 0, &[0, 1, 2, 1, 0, 1, 0, 1, 2, 2])?; // a ring, input and output one actor
+    Ok(())
 }

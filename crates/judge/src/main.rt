@@ -2,20 +2,20 @@
 // of each line). A sheet of more than 65,535 bytes cannot have a right length field, so it is enough to read one byte more.
 #![tactic(auto)]
 
-use libc::{STDIN_FILENO, STDOUT_FILENO};
+use std::io;
+use std::io::Read;
 
-fn print_after(n: u64, mark: &[u8]) {
-    io::print_decimal(STDOUT_FILENO, n);
-    io::write_all(STDOUT_FILENO, mark);
+fn print_after(rt: &impl Print, n: u64, mark: &str) -> io::Result<()> {
+    print!(rt; "{n}{mark}")
 }
 
-fn main() {
-    let mut buffer = io::large_buffer();
-    let n = io::read_full(STDIN_FILENO, &mut buffer);
-    let verdict = shambrukit::c::shambrukit_judge(&buffer[..n]);
-    print_after(verdict.answer, b" ");
-    print_after(verdict.place, b" ");
-    print_after(verdict.load, b" ");
-    print_after(verdict.frame, b" ");
-    print_after(verdict.length, b"\n");
+fn main(rt: HostRuntime) -> io::Result<()> {
+    let mut sheet = Vec::new(rt.alloc());
+    rt.reader().take(65536).read_to_end(&mut sheet)?;
+    let verdict = shambrukit::c::shambrukit_judge(&sheet);
+    print_after(&rt, verdict.answer, " ")?;
+    print_after(&rt, verdict.place, " ")?;
+    print_after(&rt, verdict.load, " ")?;
+    print_after(&rt, verdict.frame, " ")?;
+    print_after(&rt, verdict.length, "\n")
 }

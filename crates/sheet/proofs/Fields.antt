@@ -1,4 +1,4 @@
--- 01, The sheet, byte by byte: a big_endian field of any width, and a graph's fields one after the other. Reading what was
+-- 01, The sheet, byte by byte: a big-endian field of any width, and a graph's fields one after the other. Reading what was
 -- written gives the number back, and writing what was read gives the bytes back; so it does with width 0, where nothing is
 -- stored. A number that passes answer 6 has room in its field.
 use mathlib.Core.Path.{◌≡◌, refl, sym, ap, ◌∙◌}

@@ -1,4 +1,4 @@
--- 01, The sheet, byte by byte: numbers are big_endian. A field of width 0 is not stored and reads as 0.
+-- 01, The sheet, byte by byte: numbers are big-endian. A field of width 0 is not stored and reads as 0.
 use Rattle.std.specs.Prelude.{Bool, true, ◌&&◌, List, [], ◌∷◌, ◌++◌, ℕ, zero, suc, ◌+◌, ◌*◌, ◌/◌, ◌%◌, ◌^◌, ◌<◌, length, get_or, drop}
 use Rattle.units.specs.Within.{between}
 use Rattle.sheet.specs.Field.{Field}

@@ -11,7 +11,7 @@ use super::layout::{
 };
 use super::{Answer, Refusal};
 
-// 01: numbers are big_endian. Fields of two and of four bytes, at place `at`.
+// 01: numbers are big-endian. Fields of two and of four bytes, at place `at`.
 pub fn two(s: &[u8], at: usize) -> u32
     requires { at + 2 ≤ length s.now }
     ensures { (result ≡ big_endian 2 (drop at s.now)) × (result < 65536) }

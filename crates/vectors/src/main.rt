@@ -2,55 +2,65 @@
 // it.
 #![tactic(auto)]
 
-use libc::{STDIN_FILENO, STDOUT_FILENO};
+use std::alloc::Global;
+use std::io;
+use std::io::Read;
 
-fn print_after(n: u64, mark: &[u8]) {
-    io::print_decimal(STDOUT_FILENO, n);
-    io::write_all(STDOUT_FILENO, mark);
+fn print_after(rt: &impl Print, n: u64, mark: &str) -> io::Result<()> {
+    print!(rt; "{n}{mark}")
 }
 
-fn print_verdict(sheet: &[u8]) {
+fn print_verdict(rt: &impl Print, sheet: &[u8]) -> io::Result<()> {
     let verdict = shambrukit::c::shambrukit_judge(sheet);
-    print_after(verdict.answer, b" ");
-    print_after(verdict.place, b" ");
-    print_after(verdict.load, b" ");
-    print_after(verdict.frame, b" ");
-    print_after(verdict.length, b"\n");
+    print_after(rt, verdict.answer, " ")?;
+    print_after(rt, verdict.place, " ")?;
+    print_after(rt, verdict.load, " ")?;
+    print_after(rt, verdict.frame, " ")?;
+    print_after(rt, verdict.length, "\n")
+}
+
+// Up to n bytes of the input: fewer only where it ends.
+fn next_bytes<R: Read>(alloc: Global, input: &mut R, n: u32) -> io::Result<Vec<u8>> {
+    let mut bytes = Vec::new(alloc);
+    input.by_ref().take(n as u64).read_to_end(&mut bytes)?;
+    Ok(bytes)
 }
 
 // The next sheet's length, or one more than any where no sheet follows.
-fn next_length() -> usize {
-    let mut head = [0u8; 4];
-    let n = io::read_full(STDIN_FILENO, &mut head);
-    if n < 4 {
-        return 65536;
+fn next_length<R: Read>(alloc: Global, input: &mut R) -> io::Result<u32> {
+    let head = next_bytes(alloc, input, 4)?;
+    if head.len() < 4 {
+        return Ok(65536);
     }
-    sheet::check::four(&head, 0) as usize
+    Ok(sheet::check::four(&head, 0))
 }
 
-// Fills the part from standard input and judges what came.
-fn judge_read(part: &mut [u8]) {
-    let n = io::read_full(STDIN_FILENO, part);
-    print_verdict(&part[..n]);
+// Reads a sheet of so many bytes and judges what came.
+fn judge_read<R: Read>(
+    rt: &(impl Print + AllocGlobal),
+    input: &mut R,
+    length: u32,
+) -> io::Result<()> {
+    let sheet = next_bytes(rt.alloc(), input, length)?;
+    print_verdict(rt, &sheet)
 }
 
 // Judges the next sheet. Says whether there was one.
-fn judge_next() -> bool {
-    let length = next_length();
+fn judge_next<R: Read>(rt: &(impl Print + AllocGlobal), input: &mut R) -> io::Result<bool> {
+    let length = next_length(rt.alloc(), input)?;
     if 65535 < length {
-        return false;
+        return Ok(false);
     }
-    let mut buffer = io::large_buffer();
-    judge_read(&mut buffer[..length]);
-    true
+    judge_read(rt, input, length)?;
+    Ok(true)
 }
 
-fn main() {
-    let mut k: usize = 0;
-    while k < 100_000 {
-        if !judge_next() {
-            return;
+fn main(rt: HostRuntime) -> io::Result<()> {
+    let mut input = rt.reader();
+    for _ in 0..100_000 {
+        if !judge_next(&rt, &mut input)? {
+            break;
         }
-        k += 1;
     }
+    Ok(())
 }
