@@ -163,12 +163,12 @@ abbrev HeadsFrame : ℕ → List ℕ → ℕ → Type 0
 HeadsFrame n heads F = frame.Frame (length (take (3 * n) heads) / 3) (λ i. get_or (take (3 * n) heads) (3 * i) 0) F
 
 -- Answer 12 over the heads of n judged graphs.
-module _ {js : List Judged} {heads rows : List ℕ} (n : ℕ) (count : length js ≡ n) (rows_of_lem : Rows js heads rows) (room : 24 ≤ length heads) where
+module _ {js : List Judged} {heads rows : List ℕ} (n : ℕ) (count : length js ≡ n) (laid : Rows js heads rows) (room : 24 ≤ length heads) where
   third : length (take (3 * n) heads) / 3 ≡ n
-  third = rw (length-take-le (3 * n) heads (omega (arith, rows_of_lem.graphs))) (omega arith)
+  third = rw (length-take-le (3 * n) heads (omega (arith, laid.graphs))) (omega arith)
 
   period_at : (i : ℕ) → i < n → get_or (take (3 * n) heads) (3 * i) 0 ≡ (get_or js i nothing).period
-  period_at i h = get_or-take (3 * n) heads (3 * i) 0 (omega arith) ∙ (rows_of_lem.row i (omega arith)).period
+  period_at i h = get_or-take (3 * n) heads (3 * i) 0 (omega arith) ∙ (laid.row i (omega arith)).period
 
   -- Every period there is within its bounds.
   pub periods_within :
@@ -176,7 +176,7 @@ module _ {js : List Judged} {heads rows : List ℕ} (n : ℕ) (count : length js
       (0 < get_or (take (3 * n) heads) (3 * i) 0) × (get_or (take (3 * n) heads) (3 * i) 0 ≤ max_ticks)
   periods_within i h =
       let l : i < n = omega (arith, third) in
-      let b : Bounded (work_of (get_or js i nothing)) = rows_of_lem.bounded i (omega arith) in
+      let b : Bounded (work_of (get_or js i nothing)) = laid.bounded i (omega arith) in
       rw (period_at i l) (b.period_low, b.period_high)
 
   judged_frame : {F : ℕ} → HeadsFrame n heads F → frame.Frame (length js) (λ i. (get_or js i nothing).period) F

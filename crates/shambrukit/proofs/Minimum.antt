@@ -220,18 +220,18 @@ LeastOf g K v n =
 told_least :
     {l : List ℕ} {js : List Judged} {F : ℕ} → Ready l js F → (i v K n : ℕ) → Value n ≡ fewest_told (ready js F) i v K →
     LeastOf (graph_at l i) K v n
-told_least {l} {js} Ready-of i v K n e =
+told_least {l} {js} ready_of i v K n e =
     let j : Judged = get_or js i nothing in
-    let firings-of : ℕ = fewest (vector j.repetition) (vector j.skips) K v in
-    let question : Told = unless_told (leb K max_outputs) Question (Value firings-of) in
+    let firings_of : ℕ = fewest (vector j.repetition) (vector j.skips) K v in
+    let question : Told = unless_told (leb K max_outputs) Question (Value firings_of) in
     let (graph, e) = told_value (ltb i (length js)) Number (unless_told (ltb v (length j.times)) Number question) e in
     let (actor, e) = told_value (ltb v (length j.times)) Number question e in
-    let (_, e) = told_value (leb K max_outputs) Question (Value firings-of) e in
-    let same : n ≡ firings-of = cc in
+    let (_, e) = told_value (leb K max_outputs) Question (Value firings_of) e in
+    let same : n ≡ firings_of = cc in
     let h : i < length js = ltb-true _ _ graph in
-    let p = Ready-of.graph i h in
+    let p = ready_of.graph i h in
     let below : v < (graph_at l i).actors = omega (arith, ltb-true v (length j.times) actor, passes_times p) in
-    let ((order, legal, fires, outputs), least) = list_fewest Ready-of i h K in
+    let ((order, legal, fires, outputs), least) = list_fewest ready_of i h K in
     rw same ((order, legal, fires v below, outputs), λ order legal outputs. least order legal outputs v below)
 
 -- Demand within every length keeps the load within the frame.

@@ -77,8 +77,8 @@ times_at (suc n) part (suc m) r h l =
     ∙ get_or-append-add part (times n part) (m * length part + r) none
     ∙ times_at n part m r (omega arith) l
 
-get_d_behind : (fs gs : List Field) (i : ℕ) → length fs ≤ i → get_or (fs ++ gs) i none ≡ get_or gs (i - length fs) none
-get_d_behind fs gs i h =
+get_or_behind : (fs gs : List Field) (i : ℕ) → length fs ≤ i → get_or (fs ++ gs) i none ≡ get_or gs (i - length fs) none
+get_or_behind fs gs i h =
     let e : i ≡ length fs + (i - length fs) = omega arith in
     ap (λ (j : ℕ). get_or (fs ++ gs) j none) e ∙ get_or-append-add fs gs (i - length fs) none
 
@@ -98,7 +98,7 @@ layout_actor a c i h l =
     let times_of : List Field = times a actor_part in
     let channels : List Field = times c (channel_part a) in
     let e : i - 6 ≡ (i - 6) * 1 + 0 = omega arith in
-    get_d_behind (fixed_part a) (times_of ++ channels) i h
+    get_or_behind (fixed_part a) (times_of ++ channels) i h
     ∙ get_or-append times_of channels none (i - 6) (omega (arith, length_times a))
     ∙ ap (λ (j : ℕ). get_or times_of j none) e
     ∙ times_at a actor_part (i - 6) 0 l (omega arith)
@@ -113,7 +113,7 @@ layout_channel a c i h l m =
     let channels : List Field = times c (channel_part a) in
     let j : ℕ = i - 6 - a in
     let e : i - 6 - length times_of ≡ j / 5 * 5 + j % 5 = omega (arith, length_times a) in
-    get_d_behind (fixed_part a) (times_of ++ channels) i h
-    ∙ get_d_behind times_of channels (i - 6) (omega (arith, length_times a))
+    get_or_behind (fixed_part a) (times_of ++ channels) i h
+    ∙ get_or_behind times_of channels (i - 6) (omega (arith, length_times a))
     ∙ ap (λ (k : ℕ). get_or channels k none) e
     ∙ times_at c (channel_part a) (j / 5) (j % 5) (omega (arith, layout_numbers a c)) (omega arith)

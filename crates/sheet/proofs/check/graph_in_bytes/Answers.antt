@@ -9,14 +9,6 @@ pub returns-then-s-lt-FIXED_BYTES : goal.returns-then-s-lt-FIXED_BYTES
 returns-then-s-lt-FIXED_BYTES c =
     told_cut in_bytes (fixed_bytes 0) _ _ c.if-s-lt-FIXED_BYTES.true
 
-pub overflow_cast-actors : goal.overflow_cast-actors
-overflow_cast-actors c =
-    omega (arith, c.shared_slice_known-2-1.given 0)
-
-pub overflow_cast-channels : goal.overflow_cast-channels
-overflow_cast-channels c =
-    omega (arith, c.shared_slice_known-3-1.given 1)
-
 pub returns-then-not-sized : goal.returns-then-not-sized
 returns-then-not-sized c =
     told_size in_bytes (fixed_bytes 0) _ _ (omega arith) c.sized.ensures c.if-not-sized.true

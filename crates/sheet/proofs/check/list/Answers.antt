@@ -28,7 +28,3 @@ unfolding check_list
 returns c =
     c.walk_numbers.ensures
     ∙ graphs_walk in_numbers _ c.args.l.now 1 (omega arith) (omega arith)
-
-pub overflow_cast-n : goal.overflow_cast-n
-overflow_cast-n c =
-    omega (arith, c.shared_slice_known-2-1.given 0)

@@ -58,10 +58,6 @@ pub returns-then-s-lt4 : goal.returns-then-s-lt4
 returns-then-s-lt4 c =
     sym (short _ c.if-s-lt4.true)
 
-pub overflow_cast-n : goal.overflow_cast-n
-overflow_cast-n c =
-    omega (arith, c.shared_slice_known-3-1.given 3)
-
 pub returns-then-n-lt1 : goal.returns-then-n-lt1
 returns-then-n-lt1 c =
     let past : let s = c.args.s.now in check_sheet s ≡ check_graphs in_bytes (get_or s 3 0) (drop 4 s) = graphs _ c.if-s-lt4.false (sym c.two.ensures.0 ∙ c.if-two-s.false) c.if-s-ne1.false in

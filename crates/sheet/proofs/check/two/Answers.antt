@@ -4,24 +4,8 @@ use Prim.Native.Nat.{◌+◌}
 use Rattle.sheet.proofs.Fields.{big_endian_two}
 use Rattle.sheet.proofs.check.two.Goals as goal
 
-pub overflow_add-result-2 : goal.overflow_add-result-2
-overflow_add-result-2 c =
-    omega (arith, c.shared_slice_known-1.given c.args.at, c.shared_slice_known-2-1.given (c.args.at + 1))
-
 pub returns : goal.returns
 returns c = (
   big_endian_two c.args.s.now c.args.at,
-  omega (arith, c.shared_slice_known-1.given c.args.at, c.shared_slice_known-2-1.given (c.args.at + 1)),
+  omega (arith, c.type_inv.s c.args.at, c.type_inv.s (c.args.at + 1)),
 )
-
-pub overflow_cast-result : goal.overflow_cast-result
-overflow_cast-result c =
-    omega (arith, c.shared_slice_known-1.given c.args.at)
-
-pub overflow_mul-result : goal.overflow_mul-result
-overflow_mul-result c =
-    omega (arith, c.shared_slice_known-1.given c.args.at)
-
-pub overflow_cast-result-2 : goal.overflow_cast-result-2
-overflow_cast-result-2 c =
-    omega (arith, c.shared_slice_known-2-1.given (c.args.at + 1))

@@ -1,6 +1,5 @@
 -- `range::numbers` meets its contract: answers 3 to 6 for the unpacked form.
 use mathlib.Core.Path.{sym, ◌∙◌}
-use native.Mathlib.Omega.{arith}
 use Rattle.sheet.proofs.Ranges.{Listed, list_on, numbers_no, numbers_ranges}
 use Rattle.sheet.proofs.range.numbers.Goals as goal
 
@@ -26,10 +25,6 @@ pub bounds-l-0 : goal.bounds-l-0
 bounds-l-0 c =
     let listed : Listed c.args.l.now = list_on _ (sym c.list-walked.ensures ∙ c.in-On.is) in
     listed.inside
-
-pub overflow_cast-l : goal.overflow_cast-l
-overflow_cast-l c =
-    omega (arith, c.shared_slice_known-2-1.given 0)
 
 pub walk-requires : goal.walk-requires
 walk-requires c =

@@ -14,17 +14,9 @@ pub bounds-l-0 : goal.bounds-l-0
 bounds-l-0 c =
     omega (arith, stretch_numbers c.args.l.now)
 
-pub overflow_cast-l : goal.overflow_cast-l
-overflow_cast-l c =
-    omega (arith, c.shared_slice_known-2-1.given 0)
-
 pub bounds-l-1 : goal.bounds-l-1
 bounds-l-1 c =
     omega (arith, stretch_numbers c.args.l.now)
-
-pub overflow_cast-l-2 : goal.overflow_cast-l-2
-overflow_cast-l-2 c =
-    omega (arith, c.shared_slice_known-3-1.given 1)
 
 pub numbers_of-requires : goal.numbers_of-requires
 numbers_of-requires c =
