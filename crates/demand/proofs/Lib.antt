@@ -1,7 +1,6 @@
 pub mod Sums
-pub mod Rows
+pub mod Row
 pub mod Costs
 pub mod Multiples
 pub mod Writes
 pub mod TaskLists
-pub mod Weights

@@ -11,12 +11,12 @@ use lib.Dec.{eqb}
 use lib.ListN.{length, drop, length-append}
 use borrow.Author.Tests.{eq-eqb, ne_eqb}
 use Rattle.sdf.proofs.Numbers.{eq_or_ne}
+use Rattle.edf.specs.Bounds.{Bounded}
 use Rattle.edf.specs.Demand.{Work}
 use Rattle.edf.specs.Tasks.{Task, actor_tasks, tasks_to, tasks, task_numbers}
 use Rattle.edf.proofs.Fits.{TasksFit, fits_tasks}
-use Rattle.demand.specs.Written.{alone, Wrote}
+use Rattle.demand.specs.Written.{Wrote}
 use Rattle.demand.proofs.Writes.{wrote_then, wrote_length, wrote_front}
-use Rattle.demand.proofs.Rows.{Walk, walked, graph_bounded, actor, all_actors, walk_turn}
 
 -- The task list's numbers for the first v actors.
 abbrev pub numbers_to : Work → ℕ → List ℕ
@@ -94,75 +94,63 @@ length_mono w v (suc n) h = ⊎_elim
     (λ l. omega (arith, length_mono w v n (le_of_suc-le-suc l), rw add-one at (length_next w n)))
     (eq-or-lt_of_le h)
 
-module _ {heads times q s : List ℕ} {room i end v : ℕ} (a : Walk heads times q s room i end v) {n : ℕ}
-    (e : n ≡ length (numbers_to (walked a) v)) where
+module _ {w : Work} (b : Bounded w) {v : ℕ} {n : ℕ} (e : n ≡ length (numbers_to w v)) where
   -- The numbers of one more actor's tasks: they fit, and are counted.
-  pub counted : v < end → {k : ℕ} → k ≡ cond (eqb ((walked a).skip v % (walked a).repetition v) 0) 3 6
-      → (n + k < 2 ^ 64) × (n + k ≡ length (numbers_to (walked a) (v + 1)))
+  pub counted : v < w.actors → {k : ℕ} → k ≡ cond (eqb (w.skip v % w.repetition v) 0) 3 6
+      → (n + k < 2 ^ 64) × (n + k ≡ length (numbers_to w (v + 1)))
   counted m {k} d =
-      let sum : n + k ≡ length (numbers_to (walked a) (v + 1)) = omega (arith, length_next (walked a) v, actor_length (walked a) v) in
-      (omega (arith, length_at_most (walked a) (v + 1), actor a m, (graph_bounded a).actors), sum)
+      let sum : n + k ≡ length (numbers_to w (v + 1)) = omega (arith, length_next w v, actor_length w v) in
+      (omega (arith, length_at_most w (v + 1), b.actors), sum)
 
   -- At the end the whole list is counted.
-  pub counted_whole : end ≤ v → n ≡ length (task_numbers (tasks (walked a)))
+  pub counted_whole : v ≡ w.actors → n ≡ length (task_numbers (tasks w))
   unfolding tasks
-  counted_whole m = e ∙ ap (λ (k : ℕ). length (numbers_to (walked a) k)) (all_actors a m)
-
--- The task list of graph i is written into `now`, lent as `before`: the numbers of the first v actors are there.
-pub record Listing (heads times q s : List ℕ) (room i end : ℕ) (before now : List ℕ) (to v : ℕ) : Type 0 where
-  pub walk : Walk heads times q s room i end v
-  pub room_there : length (task_numbers (tasks (walked walk))) ≤ length before
-  pub wrote : Wrote before 0 (numbers_to (walked walk) v) now to
+  counted_whole m = e ∙ ap (λ (k : ℕ). length (numbers_to w k)) m
 
 -- Actor v of a graph, by itself.
 abbrev pub actor_alone : Work → ℕ → Work
-actor_alone w v = alone (w.time v) (w.repetition v) (w.skip v) w.period w.deadline
+actor_alone w v = record {
+  period = w.period;
+  deadline = w.deadline;
+  actors = 1;
+  time = λ u. w.time v;
+  repetition = λ u. w.repetition v;
+  skip = λ u. w.skip v;
+}
 
-module _ {heads times q s : List ℕ} {room i end : ℕ} {before now : List ℕ} {to v : ℕ}
-    (l : Listing heads times q s room i end before now to v) where
-  -- The graph whose list is written.
-  abbrev pub listed : Work
-  listed = walked l.walk
+-- The task list of a graph is written into `now`, lent as `before`: the numbers of the first v actors are there.
+abbrev pub Listing : Work → (before now : List ℕ) (to v : ℕ) → Type 0
+Listing w before now to v = Wrote before 0 (numbers_to w v) now to
 
-  -- The lent memory keeps its length.
-  pub listing_length : length now ≡ length before
-  listing_length = wrote_length l.wrote
-
+module _ {w : Work} (b : Bounded w) {before now : List ℕ} {to v : ℕ} (h : length (task_numbers (tasks w)) ≤ length before)
+    (l : Listing w before now to v) where
   -- At the end the task list stands in the first places, and the rest is as it was.
-  pub listing_end : end ≤ v → now ≡ task_numbers (tasks listed) ++ drop (length (task_numbers (tasks listed))) before
+  pub listing_end : v ≡ w.actors → now ≡ task_numbers (tasks w) ++ drop (length (task_numbers (tasks w))) before
   unfolding tasks
-  listing_end m = let e = all_actors l.walk m in wrote_front l.room_there (rw e at l.wrote)
+  listing_end e = wrote_front h (rw e at l)
 
-  module _ (m : v < end) where
+  module _ (m : v < w.actors) where
     -- The next actor's tasks can be written.
-    pub listing_asked : (0 < listed.repetition v) × (0 < listed.period) × TasksFit (actor_alone listed v) 0
-        × (to + length (actor_numbers (actor_alone listed v) 0) ≤ length now)
+    pub listing_asked : (0 < w.repetition v) × (0 < w.period) × TasksFit (actor_alone w v) 0
+        × (to + length (actor_numbers (actor_alone w v) 0) ≤ length now)
     unfolding actor_tasks tasks
     listing_asked =
-        let g = graph_bounded l.walk in
-        let f = fits_tasks g (actor l.walk m) in
-        let next = length_mono listed (v + 1) listed.actors (omega (arith, actor l.walk m)) in (
-          g.repetition_low v (actor l.walk m),
-          g.period_low,
-          fit f,
-          omega (arith, l.room_there, l.wrote.place, listing_length, length_next listed v, next),
+        let f = fits_tasks b m in
+        let next = length_mono w (v + 1) w.actors (omega (arith, m)) in (
+          b.repetition_low v m,
+          b.period_low,
+          record {
+            first_cost = f.first_cost;
+            first_deadline = f.first_deadline;
+            second_cost = f.second_cost;
+            second_deadline = f.second_deadline;
+            period = f.period;
+          },
+          omega (arith, h, l.place, wrote_length l, length_next w v, next),
         )
-      where
-        fit : TasksFit listed v → TasksFit (actor_alone listed v) 0
-        fit f = record {
-          first_cost = f.first_cost;
-          first_deadline = f.first_deadline;
-          second_cost = f.second_cost;
-          second_deadline = f.second_deadline;
-          period = f.period;
-        }
 
     -- They are written.
-    pub listing_turn : {after : List ℕ} {next : ℕ} → Wrote now to (actor_numbers (actor_alone listed v) 0) after next
-        → Listing heads times q s room i end before after next (v + 1)
+    pub listing_turn : {after : List ℕ} {next : ℕ} → Wrote now to (actor_numbers (actor_alone w v) 0) after next
+        → Listing w before after next (v + 1)
     unfolding actor_tasks
-    listing_turn f = record {
-      walk = walk_turn l.walk m;
-      room_there = l.room_there;
-      wrote = rw (numbers_next listed v) (wrote_then l.wrote f);
-    }
+    listing_turn f = rw (numbers_next w v) (wrote_then l f)

@@ -3,7 +3,6 @@ use mathlib.Core.Path.{◌≡◌, ◌∙◌, refl, ap}
 use mathlib.Core.List.{List, [], ◌∷◌, ◌++◌}
 use Prim.Native.Nat.{ℕ, suc, ◌+◌, ◌≤◌}
 use native.Mathlib.Nat.{add-zero, zero-add}
-use native.Mathlib.Numerals.{add-one}
 use native.Mathlib.Omega.{arith}
 use lib.ListN.{length, drop, set, length-append}
 use lib.Seq.{sets, sets-eq, length-sets}
@@ -32,8 +31,3 @@ wrote_length {o} {xs = xs} {a = a} f = ap length f.list ∙ length-sets o a xs
 -- Numbers written from the first place on are in front, and the rest is as it was.
 pub wrote_front : {o p xs : List ℕ} {b : ℕ} → length xs ≤ length o → Wrote o 0 xs p b → p ≡ xs ++ drop (length xs) o
 wrote_front {o} {xs = xs} h f = f.list ∙ simp zero-add at (sets-eq xs o 0 (omega arith))
-
--- Three numbers, one after the other.
-pub wrote_three : (out : List ℕ) (to x y z : ℕ) → Wrote out to (x ∷ y ∷ z ∷ []) (set (set (set out to x) (to + 1) y) (to + 2) z)
-    (to + 3)
-wrote_three out to x y z = let e : to + 2 ≡ suc (suc to) = omega arith in record { place = refl; list = rw (add-one, e) }

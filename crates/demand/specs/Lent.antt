@@ -1,39 +1,44 @@
--- What the engine of demand is handed: the graphs' periods, deadlines and actor counts, three numbers each, and for each graph a
--- row of `room` places in the lists of worst-case times, repetition numbers and skips.
-use Rattle.std.specs.Prelude.{◌≡◌, List, ℕ, ◌+◌, ◌*◌, ◌/◌, ◌<◌, ◌≤◌, length, get_or}
+-- What the engine of demand is handed: each graph's period, deadline and actor count, and for each graph a row of `room` actors, of
+-- which it has the first.
+use Rattle.std.specs.Prelude.{◌≡◌, List, ℕ, ◌+◌, ◌*◌, ◌<◌, ◌≤◌, length, get_or}
 use Rattle.units.specs.Bounds.{engine_actors}
+use Rattle.units.specs.declared.Ticks.{Ticks}
 use Rattle.edf.specs.Demand.{Work, Works, iteration}
 use Rattle.edf.specs.Bounds.{AllBounded}
+use Rattle.demand.specs.declared.rows.Head.{Head}
+use Rattle.demand.specs.declared.rows.Actor.{Actor}
 
-abbrev pub work_at : List ℕ → List ℕ → List ℕ → List ℕ → ℕ → ℕ → Work
-work_at heads times q s room i = record {
-  period = get_or heads (3 * i) 0;
-  deadline = get_or heads (3 * i + 1) 0;
-  actors = get_or heads (3 * i + 2) 0;
-  time = λ v. get_or times (room * i + v) 0;
-  repetition = λ v. get_or q (room * i + v) 0;
-  skip = λ v. get_or s (room * i + v) 0;
+-- What is said to stand where nothing does.
+abbrev pub no_ticks : Ticks
+no_ticks = record { n = 0 }
+
+abbrev pub no_head : Head
+no_head = record { period = no_ticks; deadline = no_ticks; actors = 0 }
+
+abbrev pub no_actor : Actor
+no_actor = record { time = no_ticks; repetition = record { n = 0 }; skip = record { n = 0 } }
+
+abbrev pub work_at : List Head → List Actor → ℕ → ℕ → Work
+work_at heads actors room i = record {
+  period = (get_or heads i no_head).period.n;
+  deadline = (get_or heads i no_head).deadline.n;
+  actors = (get_or heads i no_head).actors;
+  time = λ v. (get_or actors (room * i + v) no_actor).time.n;
+  repetition = λ v. (get_or actors (room * i + v) no_actor).repetition.n;
+  skip = λ v. (get_or actors (room * i + v) no_actor).skip.n;
 }
 
-abbrev pub works_of : List ℕ → List ℕ → List ℕ → List ℕ → ℕ → Works
-works_of heads times q s room = record { graphs = length heads / 3; work = work_at heads times q s room }
+abbrev pub works_of : List Head → List Actor → ℕ → Works
+works_of heads actors room = record { graphs = length heads; work = work_at heads actors room }
 
 -- The rows are there, and every number is within document 01's bounds.
-pub record Lent (heads times q s : List ℕ) (room : ℕ) : Type 0 where
-  pub bounded : AllBounded (works_of heads times q s room)
-  pub actors : (i : ℕ) → i < length heads / 3 → get_or heads (3 * i + 2) 0 ≤ room
-  pub times_there : room * (length heads / 3) ≤ length times
-  pub repetition_there : room * (length heads / 3) ≤ length q
-  pub skips_there : room * (length heads / 3) ≤ length s
+pub record Lent (heads : List Head) (actors : List Actor) (room : ℕ) : Type 0 where
+  pub bounded : AllBounded (works_of heads actors room)
+  pub fits : (i : ℕ) → i < length heads → (get_or heads i no_head).actors ≤ room
+  pub there : room * length heads ≤ length actors
   pub room_high : room ≤ 3 * engine_actors
 
--- An actor's place is there in each of the lists.
-pub record There (times q s : List ℕ) (at : ℕ) : Type 0 where
-  pub time : at < length times
-  pub repetition : at < length q
-  pub skip : at < length s
-
 -- Each graph's weight is the time of its iteration.
-pub record Weighed (ws : Works) (weights : List ℕ) : Type 0 where
+pub record Weighed (ws : Works) (weights : List Ticks) : Type 0 where
   pub weights_there : ws.graphs ≤ length weights
-  pub weight : (i : ℕ) → i < ws.graphs → get_or weights i 0 ≡ iteration (ws.work i)
+  pub weight : (i : ℕ) → i < ws.graphs → (get_or weights i no_ticks).n ≡ iteration (ws.work i)

@@ -2,16 +2,18 @@
 use Rattle.std.specs.Prelude.{◌≡◌, List, ℕ, ◌+◌, length}
 use Rattle.std.proofs.lemmas.List.Edits.{sets}
 use Rattle.edf.specs.Demand.{Work}
+use Rattle.demand.specs.declared.rows.Head.{Head}
+use Rattle.demand.specs.declared.rows.Actor.{Actor}
 
 -- One actor as a graph by itself.
-abbrev pub alone : ℕ → ℕ → ℕ → ℕ → ℕ → Work
-alone time repetition skip period deadline = record {
-  period = period;
-  deadline = deadline;
+abbrev pub alone : Actor → Head → Work
+alone actor head = record {
+  period = head.period.n;
+  deadline = head.deadline.n;
   actors = 1;
-  time = λ v. time;
-  repetition = λ v. repetition;
-  skip = λ v. skip;
+  time = λ v. actor.time.n;
+  repetition = λ v. actor.repetition.n;
+  skip = λ v. actor.skip.n;
 }
 
 -- The numbers xs stand from place `to` on, and nothing else has changed; `next` is the place behind them.

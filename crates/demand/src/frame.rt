@@ -2,111 +2,80 @@
 ghost use Rattle.std.specs.Prelude.{◌≡◌, ℕ, ◌*◌, ◌/◌, ◌<◌, ◌≤◌, length, get_or};
 ghost use Rattle.units.specs.Bounds.{max_ticks};
 ghost use Rattle.edf.specs.Demand.{iteration, load};
-ghost use Rattle.demand.specs.Lent.{work_at, works_of, Lent, Weighed};
+ghost use Rattle.demand.specs.Lent.{no_head, Weighed};
+ghost use Rattle.demand.specs.Rows.{works_in, work_in};
 ghost use Rattle.demand.specs.Answers.{FrameAnswer, MultipleAnswer};
 
-use super::length::iteration_time;
-use units::{Firings, SomeTicks, Ticks};
+use super::rows::{Head, Rows};
+use units::{Count, Firings, Ticks};
 
 // The least common multiple of a and b, found among the multiples of the larger, or that it is above the bound.
-pub fn common(a: Ticks, b: Ticks) -> SomeTicks
+pub fn common(a: Ticks, b: Ticks) -> Option<Ticks>
     requires { (0 < a.n) × (a.n ≤ max_ticks) × (0 < b.n) × (b.n ≤ max_ticks) }
     ensures { MultipleAnswer a.n b.n result }
 {
-    if a.count() < b.count() {
-        return multiple(b, a);
+    if a < b {
+        multiple(b, a)
+    } else {
+        multiple(a, b)
     }
-    multiple(a, b)
 }
 
 // The least multiple of a that b divides.
-fn multiple(a: Ticks, b: Ticks) -> SomeTicks
+fn multiple(a: Ticks, b: Ticks) -> Option<Ticks>
     requires { (0 < a.n) × (a.n ≤ max_ticks) × (0 < b.n) }
     ensures { MultipleAnswer a.n b.n result }
 {
     let step = a.count();
     let by = b.count();
-    let mut m = step;
-    while m <= Ticks::MAX {
+    for k in 1..=Ticks::MAX / step {
+        let m = k * step;
         if m % by == 0 {
-            return SomeTicks::Within(Ticks::of(m));
+            return Some(Ticks::of(m));
         }
-        m += step;
     }
-    SomeTicks::Outside
+    None
 }
 
 // A running multiple is enough: it divides the frame.
-pub fn frame(heads: &[u64]) -> SomeTicks
-    requires { (i : ℕ) → i < length heads.now / 3 → (0 < get_or heads.now (3 * i) 0) × (get_or heads.now (3 * i) 0 ≤ max_ticks) }
-    ensures { FrameAnswer (length heads.now / 3) (λ i. get_or heads.now (3 * i) 0) result }
+pub fn frame(heads: &[Head]) -> Option<Ticks>
+    requires { (i : ℕ) → i < length heads.now → (0 < (get_or heads.now i no_head).period.n) × ((get_or heads.now i no_head).period.n ≤ max_ticks) }
+    ensures { FrameAnswer (length heads.now) (λ i. (get_or heads.now i no_head).period.n) result }
 {
-    let n = heads.len() / 3;
     let mut so_far = Ticks::of(1);
-    let mut i = 0;
-    while i < n {
-        let next = common(so_far, Ticks::of(heads[3 * i]));
-        match next {
-            SomeTicks::Outside => return SomeTicks::Outside,
-            SomeTicks::Within(m) => {
-                so_far = m;
-            }
-        }
-        i += 1;
+    for head in heads {
+        so_far = common(so_far, head.period)?;
     }
-    SomeTicks::Within(so_far)
+    Some(so_far)
 }
 
 // Each graph's weight, the time of its iteration.
-pub fn weigh(heads: &[u64], times: &[u64], q: &[u64], s: &[u64], room: usize, weight: &mut [u64])
-    requires { Lent heads.now times.now q.now s.now room × (length heads.now / 3 ≤ length weight.old) }
-    ensures { Weighed (works_of heads.now times.now q.now s.now room) weight.new }
+pub fn weigh(rows: &Rows, weight: &mut [Ticks])
+    requires { length rows.now.heads.now ≤ length weight.old }
+    ensures { Weighed (works_in rows.now) weight.new }
 {
-    let n = heads.len() / 3;
-    let mut i = 0;
-    while i < n {
-        weight[i] = iteration_time(heads, times, q, s, room, i).count();
-        i += 1;
+    for i in 0..rows.graphs() {
+        weight[i] = rows.iteration(i);
     }
 }
 
 // What graph i adds to the frame load.
-fn graph_load(
-    heads: &[u64],
-    times: &[u64],
-    q: &[u64],
-    s: &[u64],
-    room: usize,
-    weight: &[u64],
-    i: usize,
-    frame: Ticks,
-) -> Ticks
-    requires { Lent heads.now times.now q.now s.now room × (i < length heads.now / 3) × (frame.n ≤ max_ticks) × Weighed (works_of heads.now times.now q.now s.now room) weight.now }
-    ensures { result.n ≡ frame.n / get_or heads.now (3 * i) 0 * iteration (work_at heads.now times.now q.now s.now room i) }
+fn graph_load(rows: &Rows, weight: &[Ticks], i: usize, frame: Ticks) -> Ticks
+    requires { (i < length rows.now.heads.now) × (frame.n ≤ max_ticks) × Weighed (works_in rows.now) weight.now }
+    ensures { result.n ≡ frame.n / (work_in rows.now i).period * iteration (work_in rows.now i) }
 {
-    let iterations = Firings::of(frame.count() / heads[3 * i]);
-    Ticks::of(weight[i]).times(iterations)
+    let iterations = Firings::of(frame.count() / rows.heads[i].period.count());
+    weight[i].times(iterations)
 }
 
 // 01, Frame load.
-pub fn frame_load(
-    heads: &[u64],
-    times: &[u64],
-    q: &[u64],
-    s: &[u64],
-    room: usize,
-    weight: &[u64],
-    frame: Ticks,
-) -> Ticks
-    requires { Lent heads.now times.now q.now s.now room × (frame.n ≤ max_ticks) × Weighed (works_of heads.now times.now q.now s.now room) weight.now }
-    ensures { result.n ≡ load (works_of heads.now times.now q.now s.now room) frame.n }
+pub fn frame_load(rows: &Rows, weight: &[Ticks], frame: Ticks) -> Ticks
+    requires { (frame.n ≤ max_ticks) × Weighed (works_in rows.now) weight.now }
+    ensures { result.n ≡ load (works_in rows.now) frame.n }
 {
-    let n = heads.len() / 3;
     let mut sum = Ticks::of(0);
-    let mut i = 0;
-    while i < n {
-        sum = sum.plus(graph_load(heads, times, q, s, room, weight, i, frame));
-        i += 1;
+    for i in 0..rows.graphs() {
+        sum = sum.plus(graph_load(rows, weight, i, frame));
     }
     sum
 }

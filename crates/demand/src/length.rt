@@ -4,9 +4,10 @@ ghost use lib.ListN.{length, get_or};
 ghost use Rattle.units.specs.Bounds.{max_ticks, max_outputs};
 ghost use Rattle.edf.specs.Arrivals.{due};
 ghost use Rattle.edf.specs.Demand.{cost, demand, iteration};
-ghost use Rattle.demand.specs.Lent.{work_at, works_of, Lent, There};
+ghost use Rattle.demand.specs.Rows.{works_in, work_in, actors_in};
 
-use units::{Firings, Ticks};
+use super::rows::{Actor, Rows};
+use units::{Count, Firings, Ticks};
 
 // 01, Fewest firings for K outputs: K × repetition − skip, or 0 where that is negative.
 pub fn fewest_firings(k: Firings, repetition: Firings, skip: Firings) -> Firings
@@ -21,114 +22,88 @@ pub fn blocks(period: Ticks, deadline: Ticks, length: Ticks) -> Firings
     requires { (0 < period.n) × (length.n ≤ max_ticks) }
     ensures { result.n ≡ due period.n deadline.n length.n }
 {
-    let t = length.count();
-    let d = deadline.count();
-    if t < d {
+    if length < deadline {
         return Firings::of(0);
     }
-    Firings::of((t - d) / period.count() + 1)
+    Firings::of((length.count() - deadline.count()) / period.count() + 1)
 }
 
-// How many actors graph i has.
-pub fn actors(heads: &[u64], i: usize) -> usize
-    requires { i < length heads.now / 3 }
-    ensures { result ≡ get_or heads.now (3 * i + 2) 0 }
+// What an actor asks for k blocks due.
+fn actor_cost(actor: Actor, k: Firings) -> Ticks
+    requires { (k.n * actor.repetition.n < 2 ^ 64) × (actor.time.n * (k.n * actor.repetition.n - actor.skip.n) < 2 ^ 64) }
+    ensures { result.n ≡ actor.time.n * (k.n * actor.repetition.n - actor.skip.n) }
 {
-    heads[3 * i + 2] as usize
+    actor
+        .time
+        .times(fewest_firings(k, actor.repetition, actor.skip))
 }
 
-// What the actor at that place asks for k blocks due.
-fn actor_cost(times: &[u64], q: &[u64], s: &[u64], at: usize, k: Firings) -> Ticks
-    requires { There times.now q.now s.now at × (k.n * get_or q.now at 0 < 2 ^ 64) × (get_or times.now at 0 * (k.n * get_or q.now at 0 - get_or s.now at 0) < 2 ^ 64) }
-    ensures { result.n ≡ get_or times.now at 0 * (k.n * get_or q.now at 0 - get_or s.now at 0) }
+// What one iteration of an actor takes.
+fn actor_time(actor: Actor) -> Ticks
+    requires { actor.time.n * actor.repetition.n < 2 ^ 64 }
+    ensures { result.n ≡ actor.time.n * actor.repetition.n }
 {
-    let firings = fewest_firings(k, Firings::of(q[at]), Firings::of(s[at]));
-    Ticks::of(times[at]).times(firings)
+    actor.time.times(actor.repetition)
 }
 
-// 01, Demand: what graph i asks for k blocks due.
-pub fn graph_cost(
-    heads: &[u64],
-    times: &[u64],
-    q: &[u64],
-    s: &[u64],
-    room: usize,
-    i: usize,
-    k: Firings,
-) -> Ticks
-    requires { Lent heads.now times.now q.now s.now room × (i < length heads.now / 3) × (k.n ≤ max_outputs) }
-    ensures { result.n ≡ cost (work_at heads.now times.now q.now s.now room i) k.n }
-{
-    let end = actors(heads, i);
-    let first = room * i;
-    let mut sum = Ticks::of(0);
-    let mut v = 0;
-    while v < end {
-        sum = sum.plus(actor_cost(times, q, s, first + v, k));
-        v += 1;
+impl<'a> Rows<'a> {
+    // How many graphs there are.
+    pub fn graphs(&self) -> usize
+        ensures { result ≡ length self.now.heads.now }
+    {
+        self.heads.len()
     }
-    sum
-}
 
-// The blocks of graph i due in a length.
-pub fn graph_blocks(heads: &[u64], i: usize, length: Ticks) -> Firings
-    requires { (i < lib.ListN.length heads.now / 3) × (0 < get_or heads.now (3 * i) 0) × (length.n ≤ max_ticks) }
-    ensures { result.n ≡ due (get_or heads.now (3 * i) 0) (get_or heads.now (3 * i + 1) 0) length.n }
-{
-    let b = 3 * i;
-    blocks(Ticks::of(heads[b]), Ticks::of(heads[b + 1]), length)
+    // The actors of graph i.
+    pub fn actors_of(&self, i: usize) -> &[Actor]
+        requires { i < lib.ListN.length self.now.heads.now }
+        ensures { result.now ≡ actors_in self.now i }
+    {
+        let first = self.room * i;
+        &self.actors[first..first + self.heads[i].actors]
+    }
+
+    // The blocks of graph i due in a length.
+    pub fn blocks(&self, i: usize, length: Ticks) -> Firings
+        requires { (i < lib.ListN.length self.now.heads.now) × (length.n ≤ max_ticks) }
+        ensures { result.n ≡ due (work_in self.now i).period (work_in self.now i).deadline length.n }
+    {
+        blocks(self.heads[i].period, self.heads[i].deadline, length)
+    }
+
+    // 01, Demand: what graph i asks for k blocks due.
+    pub fn cost(&self, i: usize, k: Firings) -> Ticks
+        requires { (i < length self.now.heads.now) × (k.n ≤ max_outputs) }
+        ensures { result.n ≡ cost (work_in self.now i) k.n }
+    {
+        let mut sum = Ticks::of(0);
+        for &actor in self.actors_of(i) {
+            sum = sum.plus(actor_cost(actor, k));
+        }
+        sum
+    }
+
+    // The time of one iteration of graph i.
+    pub fn iteration(&self, i: usize) -> Ticks
+        requires { i < length self.now.heads.now }
+        ensures { result.n ≡ iteration (work_in self.now i) }
+    {
+        let mut sum = Ticks::of(0);
+        for &actor in self.actors_of(i) {
+            sum = sum.plus(actor_time(actor));
+        }
+        sum
+    }
 }
 
 // 01, Demand at a length.
-pub fn demand_at(
-    heads: &[u64],
-    times: &[u64],
-    q: &[u64],
-    s: &[u64],
-    room: usize,
-    length: Ticks,
-) -> Ticks
-    requires { Lent heads.now times.now q.now s.now room × (length.n ≤ max_ticks) }
-    ensures { result.n ≡ demand (works_of heads.now times.now q.now s.now room) length.n }
+pub fn demand_at(rows: &Rows, length: Ticks) -> Ticks
+    requires { length.n ≤ max_ticks }
+    ensures { result.n ≡ demand (works_in rows.now) length.n }
 {
-    let n = heads.len() / 3;
     let mut sum = Ticks::of(0);
-    let mut i = 0;
-    while i < n {
-        let k = graph_blocks(heads, i, length);
-        sum = sum.plus(graph_cost(heads, times, q, s, room, i, k));
-        i += 1;
-    }
-    sum
-}
-
-// What one iteration of the actor at that place takes.
-fn actor_time(times: &[u64], q: &[u64], at: usize) -> Ticks
-    requires { (at < length times.now) × (at < length q.now) × (get_or times.now at 0 * get_or q.now at 0 < 2 ^ 64) }
-    ensures { result.n ≡ get_or times.now at 0 * get_or q.now at 0 }
-{
-    Ticks::of(times[at]).times(Firings::of(q[at]))
-}
-
-// The time of one iteration of graph i.
-pub fn iteration_time(
-    heads: &[u64],
-    times: &[u64],
-    q: &[u64],
-    s: &[u64],
-    room: usize,
-    i: usize,
-) -> Ticks
-    requires { Lent heads.now times.now q.now s.now room × (i < length heads.now / 3) }
-    ensures { result.n ≡ iteration (work_at heads.now times.now q.now s.now room i) }
-{
-    let end = actors(heads, i);
-    let first = room * i;
-    let mut sum = Ticks::of(0);
-    let mut v = 0;
-    while v < end {
-        sum = sum.plus(actor_time(times, q, first + v));
-        v += 1;
+    for i in 0..rows.graphs() {
+        sum = sum.plus(rows.cost(i, rows.blocks(i, length)));
     }
     sum
 }

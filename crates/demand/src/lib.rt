@@ -2,6 +2,7 @@
 // sheet: the graphs' numbers are lent to it in rows.
 #![tactic(auto)]
 
+pub mod rows; // the graphs as they are handed in
 pub mod length; // demand at a length
 pub mod frame; // frame and frame load
 pub mod tasks; // task list

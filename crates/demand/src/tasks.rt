@@ -2,79 +2,56 @@
 ghost use Rattle.std.specs.Prelude.{◌≡◌, cond, [], ◌∷◌, ◌++◌, ◌+◌, ◌/◌, ◌%◌, ◌<◌, ◌≤◌, eqb, length, drop};
 ghost use Rattle.edf.specs.Tasks.{tasks, actor_tasks, task_numbers};
 ghost use Rattle.edf.proofs.Fits.{TasksFit};
-ghost use Rattle.demand.specs.Lent.{work_at, Lent};
+ghost use Rattle.demand.specs.Rows.{work_in};
 ghost use Rattle.demand.specs.Written.{alone, Wrote};
 
-use super::length::actors;
+use super::rows::{Actor, Head, Rows};
+use units::Count;
 
-// How many numbers the tasks of an actor with that repetition number and skip have.
-fn actor_count(repetition: u64, skip: u64) -> usize
-    requires { 0 < repetition }
-    ensures { result ≡ cond (eqb (skip % repetition) 0) 3 6 }
+// How many numbers the tasks of that actor have.
+fn actor_count(actor: Actor) -> usize
+    requires { 0 < actor.repetition.n }
+    ensures { result ≡ cond (eqb (actor.skip.n % actor.repetition.n) 0) 3 6 }
 {
-    if skip % repetition == 0 {
+    if actor.skip.count() % actor.repetition.count() == 0 {
         return 3;
     }
     6
 }
 
 // How many numbers the task list of graph i has.
-pub fn count(heads: &[u64], times: &[u64], q: &[u64], s: &[u64], room: usize, i: usize) -> usize
-    requires { Lent heads.now times.now q.now s.now room × (i < length heads.now / 3) }
-    ensures { result ≡ length (task_numbers (tasks (work_at heads.now times.now q.now s.now room i))) }
+pub fn count(rows: &Rows, i: usize) -> usize
+    requires { i < length rows.now.heads.now }
+    ensures { result ≡ length (task_numbers (tasks (work_in rows.now i))) }
 {
-    let end = actors(heads, i);
-    let first = room * i;
     let mut n = 0;
-    let mut v = 0;
-    while v < end {
-        let at = first + v;
-        n += actor_count(q[at], s[at]);
-        v += 1;
+    for &actor in rows.actors_of(i) {
+        n += actor_count(actor);
     }
     n
 }
 
 // The task list of graph i, into the first places of `out`.
-pub fn list(
-    heads: &[u64],
-    times: &[u64],
-    q: &[u64],
-    s: &[u64],
-    room: usize,
-    i: usize,
-    out: &mut [u64],
-)
-    requires { Lent heads.now times.now q.now s.now room × (i < length heads.now / 3) × (length (task_numbers (tasks (work_at heads.now times.now q.now s.now room i))) ≤ length out.old) }
-    ensures { out.new ≡ task_numbers (tasks (work_at heads.now times.now q.now s.now room i)) ++ drop (length (task_numbers (tasks (work_at heads.now times.now q.now s.now room i)))) out.old }
+pub fn list(rows: &Rows, i: usize, out: &mut [u64])
+    requires { (i < length rows.now.heads.now) × (length (task_numbers (tasks (work_in rows.now i))) ≤ length out.old) }
+    ensures { out.new ≡ task_numbers (tasks (work_in rows.now i)) ++ drop (length (task_numbers (tasks (work_in rows.now i)))) out.old }
 {
-    let end = actors(heads, i);
-    let first = room * i;
-    let b = 3 * i;
-    let period = heads[b];
-    let deadline = heads[b + 1];
     let mut to = 0;
-    let mut v = 0;
-    while v < end {
-        let at = first + v;
-        to = actor_tasks(out, to, times[at], q[at], s[at], period, deadline);
-        v += 1;
+    for &actor in rows.actors_of(i) {
+        to = actor_tasks(out, to, actor, rows.heads[i]);
     }
 }
 
 // The tasks of one actor from that place on; the place behind them.
-fn actor_tasks(
-    out: &mut [u64],
-    to: usize,
-    time: u64,
-    repetition: u64,
-    skip: u64,
-    period: u64,
-    deadline: u64,
-) -> usize
-    requires { (0 < repetition) × (0 < period) × TasksFit (alone time repetition skip period deadline) 0 × (to + length (task_numbers (actor_tasks (alone time repetition skip period deadline) 0)) ≤ length out.old) }
-    ensures { Wrote out.old to (task_numbers (actor_tasks (alone time repetition skip period deadline) 0)) out.new result }
+fn actor_tasks(out: &mut [u64], to: usize, actor: Actor, head: Head) -> usize
+    requires { (0 < actor.repetition.n) × (0 < head.period.n) × TasksFit (alone actor head) 0 × (to + length (task_numbers (actor_tasks (alone actor head) 0)) ≤ length out.old) }
+    ensures { Wrote out.old to (task_numbers (actor_tasks (alone actor head) 0)) out.new result }
 {
+    let time = actor.time.count();
+    let repetition = actor.repetition.count();
+    let skip = actor.skip.count();
+    let period = head.period.count();
+    let deadline = head.deadline.count();
     let a = skip / repetition;
     let b = skip % repetition;
     let next = task(

@@ -3,14 +3,13 @@ use mathlib.Core.Path.{◌≡◌, ◌∙◌, ap}
 use mathlib.Core.List.{List, ◌∷◌, ◌++◌}
 use Prim.Native.Nat.{ℕ, ◌+◌, ◌-◌, ◌<◌, ◌≤◌}
 use native.Mathlib.Omega.{arith}
+use Rattle.std.specs.Prelude.{Ok, Err}
 use lib.ListN.{length, drop, set, get_or, length-append, length-drop}
 use lib.Seq.{sets, sets-eq}
 use borrow.Author.Tests.{le-leb, lt-leb}
 use borrow.Rule.Slice.PartMut.{put_mid, mid_of}
 use Rattle.sheet.specs.declared.Refusal.{Refusal}
 use Rattle.sheet.specs.declared.Refusal.TheVariants.{Room}
-use Rattle.sheet.specs.declared.Answer.TheVariants.{On, No}
-use Rattle.sheet.specs.declared.Written.TheVariants.{Wrote, Refused}
 use Rattle.sheet.specs.Layout.{largest_sheet}
 use Rattle.sheet.specs.Fields.{to_bytes}
 use Rattle.sheet.specs.Forms.{graphs_bytes, packed, check_numbers, pack_answer}
@@ -21,7 +20,7 @@ use Rattle.sheet.proofs.Ranges.{next_of}
 use Rattle.sheet.proofs.Walk.{part_is_drop}
 
 -- A refusal of answers 3 to 6 stands.
-pub pack_no : (l : List ℕ) (r : Refusal) (room : ℕ) → check_numbers l ≡ No r → Refused r ≡ pack_answer l room
+pub pack_no : (l : List ℕ) (r : Refusal) (room : ℕ) → check_numbers l ≡ Err r → Err r ≡ pack_answer l room
 unfolding pack_answer
 pack_no l r room e = rw e
 
@@ -31,7 +30,7 @@ body l = graphs_bytes (get_or l 0 0) (next_of l 1)
 
 -- An unpacked form that passes answers 3 to 6, whose sheet has `all` bytes.
 pub record Counted (l : List ℕ) (all : ℕ) : Type 0 where
-  pub on : check_numbers l ≡ On
+  pub on : check_numbers l ≡ Ok tt
   pub count : all ≡ 4 + length (body l)
 
 module _ {l : List ℕ} {all : ℕ} (q : Counted l all) where
@@ -43,12 +42,12 @@ module _ {l : List ℕ} {all : ℕ} (q : Counted l all) where
   pack_small = omega (arith, packed_all, packed_at_most l q.on)
 
   -- With too little room for all bytes the answer is 14.
-  pub pack_room : (room : ℕ) → room < all → Refused Room ≡ pack_answer l room
+  pub pack_room : (room : ℕ) → room < all → Err Room ≡ pack_answer l room
   unfolding pack_answer
   pack_room room h = rw (q.on, packed_all, lt-leb _ _ h)
 
   -- With room for all bytes they are written.
-  pub pack_wrote : (room : ℕ) → all ≤ room → Wrote all ≡ pack_answer l room
+  pub pack_wrote : (room : ℕ) → all ≤ room → Ok all ≡ pack_answer l room
   unfolding pack_answer
   pack_wrote room h = rw (q.on, packed_all, le-leb _ _ h)
 

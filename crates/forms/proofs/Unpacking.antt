@@ -3,13 +3,12 @@ use mathlib.Core.Path.{◌≡◌, sym}
 use mathlib.Core.List.{List, ◌++◌}
 use Prim.Native.Nat.{ℕ, ◌+◌, ◌-◌, ◌≤◌, ◌<◌}
 use native.Mathlib.Omega.{arith}
+use Rattle.std.specs.Prelude.{Ok, Err}
 use lib.ListN.{length, get_or, take, drop, set, length-set, length-drop}
 use borrow.Author.Tests.{le-leb, lt-leb}
 use borrow.Rule.Slice.PartMut.{put_mid, mid_of}
-use Rattle.sheet.specs.declared.Answer.TheVariants.{On, No}
 use Rattle.sheet.specs.declared.Refusal.{Refusal}
 use Rattle.sheet.specs.declared.Refusal.TheVariants.{Room}
-use Rattle.sheet.specs.declared.Written.TheVariants.{Wrote, Refused}
 use Rattle.sheet.specs.Check.{check_sheet}
 use Rattle.sheet.specs.Forms.{graphs_numbers, unpacked, unpack_answer}
 use Rattle.sheet.proofs.Walk.{part_is_drop}
@@ -21,17 +20,17 @@ unfolding unpacked
 unpacked_length s = omega arith
 
 -- A sheet that answers 1 to 5 refuse is not unpacked.
-pub unpack_refused : (s : List ℕ) (room : ℕ) {r : Refusal} → check_sheet s ≡ No r → Refused r ≡ unpack_answer s room
+pub unpack_refused : (s : List ℕ) (room : ℕ) {r : Refusal} → check_sheet s ≡ Err r → Err r ≡ unpack_answer s room
 unfolding unpack_answer
 unpack_refused s room e = rw e
 
-module _ (s : List ℕ) {m : ℕ} (on : check_sheet s ≡ On) (count : m ≡ length (graphs_numbers (get_or s 3 0) (take (length s - 4) (drop 4 s)))) where
+module _ (s : List ℕ) {m : ℕ} (on : check_sheet s ≡ Ok tt) (count : m ≡ length (graphs_numbers (get_or s 3 0) (take (length s - 4) (drop 4 s)))) where
   -- The graph count is one number more.
   pub unpack_count : 1 + m ≡ length (unpacked s)
   unpack_count = rw (count, part_is_drop s 4) (sym (unpacked_length s))
 
   -- 01, answer 14: the list has no room for the unpacked form.
-  pub unpack_room : (room : ℕ) → room < 1 + m → Refused Room ≡ unpack_answer s room
+  pub unpack_room : (room : ℕ) → room < 1 + m → Err Room ≡ unpack_answer s room
   unfolding unpack_answer
   unpack_room room h = rw (on, ← unpack_count, lt-leb (1 + m) room h)
 
@@ -45,7 +44,7 @@ module _ (s : List ℕ) {m : ℕ} (on : check_sheet s ≡ On) (count : m ≡ len
       rw (← count, part_is_drop counted 1, length-drop 1 counted, length-set before 0 (get_or s 3 0)) (omega arith)
 
   -- The list has room for the unpacked form.
-  pub unpack_wrote : (room : ℕ) → 1 + m ≤ room → Wrote (1 + m) ≡ unpack_answer s room
+  pub unpack_wrote : (room : ℕ) → 1 + m ≤ room → Ok (1 + m) ≡ unpack_answer s room
   unfolding unpack_answer
   unpack_wrote room h = rw (on, ← unpack_count, le-leb (1 + m) room h)
 

@@ -14,7 +14,7 @@ use Rattle.units.specs.Bounds.{engine_actors, max_tokens, max_repetition}
 use Rattle.sdf.specs.Graph.{Channel, Graph, Reached}
 use Rattle.sdf.specs.Skip.{allowed, Skips}
 use Rattle.sdf.specs.Sum.{sum_to}
-use Rattle.sdf.proofs.Numbers.{lt_or_ge, eq_or_ne}
+use Rattle.sdf.proofs.Numbers.{eq_or_ne}
 use Rattle.sdf.proofs.Settle.{put, put_same, put_other, put_keeps, sum_lower}
 use Rattle.sdf.proofs.Skip.{relax_law, settled_skips, skips_exist, skips_bounded, skip_step_fits}
 use Rattle.trial.specs.Flat.{vector, Drawn}
@@ -30,21 +30,9 @@ use Rattle.repeat.specs.Repetition.{Repeats}
 use Rattle.graph.specs.Skip.{max_skip, Highest, Falling, Meets, Watched, Entries, Lowered}
 use Rattle.repeat.specs.Words.{Words, Unskipped}
 
--- A share of 0 or 1 is at most the whole.
-pub share_le : (a b : ℕ) → a * (1 - b) ≤ a
-share_le a b = let h : 1 - b ≤ 1 = omega arith in omega (arith, mul-le-mul (le_refl a) h)
-
 -- What the first vector holds at v.
 abbrev pub High : (actors zeros : ℕ) → (ℕ → ℕ) → ℕ → ℕ → Type 0
-High actors zeros q v n = n ≡ actors * max_tokens * (q v * (1 - has zeros v))
-
--- The first vector, once every actor has its entry.
-pub highest_end : (actors zeros : ℕ) (q s : ℕ → ℕ) → ((v : ℕ) → v < actors → High actors zeros q v (s v)) → Highest actors zeros q s
-highest_end actors zeros q s h =
-    record {
-      high = λ v l z. omega (arith, h v l, ap (λ (x : ℕ). actors * max_tokens * (q v * (1 - x))) z);
-      none = λ v l o. omega (arith, h v l, ap (λ (x : ℕ). actors * max_tokens * (q v * (1 - x))) o);
-    }
+High actors zeros q v n = (has zeros v ≡ 0 → n ≡ actors * max_tokens * q v) × (has zeros v ≡ 1 → n ≡ 0)
 
 module _ (g : Graph) (zeros : ℕ) (q : List ℕ) (s : ℕ → ℕ) (drawn : Drawn g) (repeats : Repeats g q) (h : Highest g.actors zeros (vector q) s) where
   -- The first vector is above every skip.
@@ -73,7 +61,7 @@ module _ (g : Graph) (zeros : ℕ) (q : List ℕ) (s : ℕ → ℕ) (drawn : Dra
 
 -- Where all actors are at 0 the skips stand there.
 pub zero_skips : {g : Graph} {zeros : ℕ} {s : ℕ → ℕ} → Drawn g → Falling g zeros s → Covers zeros g.actors → Skips g s
-zero_skips {g} {zeros} {s} drawn f all = settled_skips g s f.above record {
+zero_skips {g} {s = s} drawn f all = settled_skips g s f.above record {
   output = f.output;
   channel = λ d l. let t = (g.channel d).tail in rw (f.none t (drawn.sound.tail d l) (all t (drawn.sound.tail d l))) zero-le;
 }
@@ -122,24 +110,6 @@ module _ {g : Graph} {n c tail head : ℕ} (ends : Ends g n c tail head) {zeros 
   lowering_asks drawn =
       let a : tail < g.actors = rw (← ends.tail) (ends.sound.tail c ends.channel) in
       omega (arith, mul-le-mul (p.falling.bound tail a) (drawn.produce c ends.channel))
-
-  -- A channel that is met lowers nothing.
-  pub lowering_met : {next : ℕ} → at ≡ c + 1 → Chain (λ d. (g.channel d).head) head c next → ¬ (allowed (g.channel c) (get_or now head 0) < get_or now tail 0) → Lowering g zeros head next fell before now
-  lowering_met here chain h =
-      let most : get_or now tail 0 ≤ allowed (g.channel c) (get_or now head 0) = ⊎_elim (λ l. absurd (h l)) (λ m. m) (lt_or_ge (allowed (g.channel c) (get_or now head 0)) (get_or now tail 0)) in
-      record {
-        same_length = p.same_length;
-        falling = p.falling;
-        actors = p.actors;
-        below = p.below;
-        kept = p.kept;
-        sum = p.sum;
-        less = p.less;
-        still = p.still;
-        walked = walked_turn _ p.walked here chain (λ d l n e. absurd (n e))
-            (λ e z. subst₂ (λ v w. get_or now v 0 ≤ allowed (g.channel c) (get_or now w 0)) (sym ends.tail) (sym ends.head) most)
-            (λ d l w. w);
-      }
 
   module _ (most : ℕ) (e : most ≡ allowed (g.channel c) (get_or now head 0)) (h : allowed (g.channel c) (get_or now head 0) < get_or now tail 0) where
     falls : Falling g zeros (put (vector now) tail most)
@@ -190,20 +160,6 @@ module _ {g : Graph} {n c tail head : ℕ} (ends : Ends g n c tail head) {zeros 
                 (λ d l w q z. subst⁻¹ (λ s. Meets g s d) i (meets_lower g (vector now) tail most d (omega arith) (λ t. other head z (sym q ∙ t)) (w q (was head z))));
           }
 
--- At the end of the list.
-pub lowering_end : {g : Graph} {zeros h at fell : ℕ} {before now : List ℕ} → at ≤ 0 → Lowering g zeros h at fell before now → Lowered g zeros h fell before now
-lowering_end {g} {zeros} {h} {at} {fell} {before} {now} l p = record {
-  falling = p.falling;
-  actors = p.actors;
-  less = p.less;
-  still = p.still;
-  watched = λ ready w d m z.
-      let head = (g.channel d).head in ⊎_elim
-      (λ e. p.walked.passed d (omega arith) m e (omega (arith, ap (has fell) e)))
-      (λ n. rw (p.kept head (omega arith)) (le_trans (p.below (g.channel d).tail) (w d n m (omega arith))))
-      (eq_or_ne head h);
-}
-
 -- Actors below n, among them every one with a tail outside the set at 0.
 pub record Entering (words : List ℕ) (zeros n set : ℕ) : Type 0 where
   pub below : Below set n
@@ -229,9 +185,9 @@ entering_turn {words} {zeros} {n} {set} {new} left p minus put = record {
     empty false e z t o = absurd (omega (arith, ap {B = ℕ} (λ (b : Bool). cond (not b) 1 0) e))
 
 -- All are looked at: those found that are in the set at 0.
-pub entering_end : {g : Graph} {words between : List ℕ} {zeros n set r : ℕ} → Drawn g → Words g words between → n ≤ g.actors → g.actors ≤ n → Entering words zeros n set
+pub entering_end : {g : Graph} {words : List ℕ} {zeros n set r : ℕ} → Drawn g → Words g words → n ≤ g.actors → g.actors ≤ n → Entering words zeros n set
     → ((v : ℕ) → has r v ≡ min (has set v) (has zeros v)) → Entries g zeros r
-entering_end {g} {words} {between} {zeros} {n} {set} {r} drawn drawing most all p common = record {
+entering_end {g} {words} {zeros} {n} {set} {r} drawn drawing most all p common = record {
   actors = λ v o. omega (arith, p.below v (omega (arith, common v, has_small set v, has_small zeros v)));
   inside = λ d l o z. let h = (g.channel d).head in
       p.inside h (omega (arith, drawn.sound.head d l)) (omega (arith, common h)) (g.channel d).tail (drawing.tails.holds d l refl);
@@ -296,7 +252,7 @@ module _ {g : Graph} {zeros h todo less fell todo' : ℕ} {before after : List �
 
 -- Nobody is left to be looked at: the skips stand there.
 pub settling_end : {g : Graph} {zeros todo : ℕ} {s : List ℕ} → Settling g zeros todo s → todo ≡ 0 → Skips g (vector s)
-settling_end {g} {zeros} {todo} {s} p z = settled_skips g (vector s) p.falling.above record {
+settling_end {g} {s = s} p z = settled_skips g (vector s) p.falling.above record {
   output = p.falling.output;
   channel = λ d l. p.watched d l (ap (λ (x : ℕ). has x (g.channel d).head) z ∙ has_none (g.channel d).head);
 }

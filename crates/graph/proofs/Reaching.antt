@@ -19,9 +19,6 @@ use Rattle.sets.proofs.Bits.{has_none, has_small, has_bit}
 use Rattle.sets.proofs.Gather.{gather_below}
 use Rattle.sets.proofs.Decided.{decides_same}
 use Rattle.trial.specs.Flat.{Drawn}
-use Rattle.repeat.specs.declared.repetition.Numbering.{Numbering}
-use Rattle.repeat.specs.declared.repetition.Numbering.TheVariants.{Found, Unbalanced, Unreached}
-use Rattle.repeat.specs.Repetition.{RepetitionAnswer, BalanceAnswer}
 use Rattle.repeat.specs.Words.{tied, keeps, Words, KeptBack, AllFrom, AllTo, Unskipped}
 
 -- What holds at v, and of each that is led to where it holds of the one before, holds at the end of a trail from v.
@@ -66,14 +63,10 @@ ready g k words start drawn l room gathers sound below =
     let e : length words / 3 ≡ g.actors = omega arith in
     (l, omega (arith, drawn.actors), λ v h. omega (arith, below v h), λ v m w h. omega (arith, gather_below g.actors gathers sound v (omega arith) w h))
 
-module _ {g : Graph} {words between : List ℕ} (drawn : Drawn g) (w : Words g words between) where
+module _ {g : Graph} {words : List ℕ} (drawn : Drawn g) (w : Words g words) where
   -- The words are ready to spread along the channels.
   pub ready_heads : (start : ℕ) → Below start g.actors → Ready 0 words start
   ready_heads start b = ready g 0 words start drawn (omega arith) w.room w.heads drawn.sound.head b
-
-  -- And against them.
-  pub ready_tails : (start : ℕ) → Below start g.actors → Ready 1 words start
-  ready_tails start b = ready g 1 words start drawn (omega arith) w.room w.tails drawn.sound.tail b
 
   -- And against those that are tied.
   pub ready_tied : (start : ℕ) → Below start g.actors → Ready 2 words start
@@ -155,32 +148,9 @@ module _ {g : Graph} {words between : List ℕ} (drawn : Drawn g) (w : Words g w
         none = λ v h. (met_unskipped p s v h).2;
       }
 
--- Where actors that reach the output are all there are, all reach it.
-pub unskipped_all : {g : Graph} {zero : ℕ} → Unskipped g zero → Covers zero g.actors → AllTo g g.output
-unskipped_all z c v l = z.reach v (c v l)
-
 -- Every actor is reached and reaches, exactly if the input reaches every actor and every actor reaches the output.
 pub reached_both : (g : Graph) → Reached g ↔ (AllFrom g g.input × AllTo g g.output)
 reached_both g = (λ r. (λ v l. (r v l).0, λ v l. (r v l).1), λ b v l. (b.0 v l, b.1 v l))
-
-module _ (g : Graph) (r : Numbering) (q awaits : List ℕ) (a : RepetitionAnswer g r q awaits) where
-  -- Where the numbers are found and every actor reaches the output, they are those of a graph that is reached.
-  pub answer_found : r ≡ Found → AllTo g g.output → BalanceAnswer g Found q awaits
-  answer_found e to =
-      let b : RepetitionAnswer g Found q awaits = subst (λ (x : Numbering). RepetitionAnswer g x q awaits) e a in
-      ((reached_both g).1 (b.0, to), b.1, b.2)
-
-  -- Where the input does not reach every actor the graph is not reached.
-  pub answer_unreached : r ≡ Unreached → BalanceAnswer g Unreached q awaits
-  answer_unreached e =
-      let b : RepetitionAnswer g Unreached q awaits = subst (λ (x : Numbering). RepetitionAnswer g x q awaits) e a in
-      λ h. b ((reached_both g).0 h).0
-
-  -- Where no balanced vector is within the bound, and the graph is reached, it has no numbers.
-  pub answer_unbalanced : r ≡ Unbalanced → AllFrom g g.input → AllTo g g.output → BalanceAnswer g Unbalanced q awaits
-  answer_unbalanced e from to =
-      let b : RepetitionAnswer g Unbalanced q awaits = subst (λ (x : Numbering). RepetitionAnswer g x q awaits) e a in
-      ((reached_both g).1 (from, to), b)
 
 -- All but the input are kept from firing in the initial tokens, exactly if the graph is at rest.
 pub rest_decides : (g : Graph) (back all : ℕ) (r : Bool) → KeptBack g back → Put back g.input (max (has back g.input) 1) all → Decides r (Covers all g.actors) → Decides r (AtRest g)

@@ -5,22 +5,22 @@
 ghost use Rattle.std.specs.Prelude.{◌≡◌, ◌+◌, ◌*◌, ◌/◌, ◌<◌, ◌≤◌, length};
 ghost use Rattle.sets.specs.Decides.{Decides};
 ghost use Rattle.sdf.specs.Order.{AtRest};
-ghost use Rattle.trial.specs.Flat.{graph_of, Drawn};
-ghost use Rattle.repeat.specs.Words.{Words, KeptBack, Unskipped};
+ghost use Rattle.trial.specs.Net.{net_graph};
+ghost use Rattle.repeat.specs.Words.{Words, Between, KeptBack, Unskipped};
 ghost use Rattle.repeat.specs.Repetition.{BalanceAnswer};
-ghost use Rattle.graph.specs.Judged.{Judged};
+ghost use Rattle.graph.specs.Judged.{Judged, fault_of};
 
-use repeat::repetition::Numbering;
+use repeat::repetition::Unnumbered;
 use repeat::{draw, repetition};
 use sets::{covers, with};
+use trial::net::Net;
 
 pub mod reach; // 01, answer 7
 pub mod skip; // 01, Skip numbers
 
-// 01, answers 7 to 11, or none of them.
-#[derive(Clone, Copy)]
-pub enum GraphAnswer {
-    Fine,
+// 01, answers 7 to 11.
+#[derive(Clone, Copy, PartialEq, Eq)]
+pub enum Fault {
     Reach,
     Balance,
     NotOnce,
@@ -28,56 +28,55 @@ pub enum GraphAnswer {
     Restless,
 }
 
+impl From<Unnumbered> for Fault {
+    ghost from_gives = { λ e f. f ≡ fault_of e };
+
+    fn from(e: Unnumbered) -> Fault {
+        match e {
+            Unnumbered::Unreached => Fault::Reach,
+            Unnumbered::Unbalanced => Fault::Balance,
+        }
+    }
+}
+
 // Answers 7 and 8, or the repetition numbers in q. That the input reaches every actor comes with the numbers, and is looked at for
 // itself only where there are none. `zero` holds actors that reach the output; `met` is lent to note an order in.
 fn balance(
-    actors: usize,
-    input: usize,
-    output: usize,
-    channels: &[u32],
+    net: &Net,
     words: &[u64],
     between: &[u8],
     zero: u64,
     q: &mut [u64],
     awaits: &mut [u64],
     met: &mut [u64],
-) -> Numbering
-    requires drawn { Drawn (graph_of actors input output channels.now) × Words (graph_of actors input output channels.now) words.now between.now × Unskipped (graph_of actors input output channels.now) zero }
-    requires actors_in_bounds { (actors ≤ length q.old) × (actors * actors ≤ length between.now) × (actors ≤ length awaits.old) }
-    ensures { BalanceAnswer (graph_of actors input output channels.now) result q.new awaits.new }
+) -> Result<(), Unnumbered>
+    requires drawn { Words (net_graph net.now) words.now × Between (net_graph net.now) words.now between.now × Unskipped (net_graph net.now) zero }
+    requires actors_in_bounds { (net.now.actors ≤ length q.old) × (net.now.actors * net.now.actors ≤ length between.now) × (net.now.actors ≤ length awaits.old) }
+    ensures { BalanceAnswer (net_graph net.now) result q.new awaits.new }
 {
-    if !reach::to_output(actors, input, output, channels, words, between, zero) {
-        return Numbering::Unreached;
+    if !reach::to_output(net, words, zero) {
+        return Err(Unnumbered::Unreached);
     }
-    let found = repetition::repetition(
-        actors, input, output, channels, words, between, q, awaits, met,
-    );
-    match found {
-        Numbering::Found => return Numbering::Found,
-        Numbering::Unreached => return Numbering::Unreached,
-        Numbering::Unbalanced => {}
+    match repetition::repetition(net, words, between, q, awaits, met) {
+        Ok(()) => Ok(()),
+        Err(Unnumbered::Unreached) => Err(Unnumbered::Unreached),
+        Err(Unnumbered::Unbalanced) if reach::from_input(net, words) => Err(Unnumbered::Unbalanced),
+        Err(Unnumbered::Unbalanced) => Err(Unnumbered::Unreached),
     }
-    if !reach::from_input(actors, input, output, channels, words, between) {
-        return Numbering::Unreached;
-    }
-    Numbering::Unbalanced
 }
 
 // 01, answer 11: whether before anything arrives no actor but the input may fire. `back` holds those that a channel keeps from it.
-fn at_rest(actors: usize, input: usize, output: usize, channels: &[u32], back: u64) -> bool
-    requires { Drawn (graph_of actors input output channels.now) × KeptBack (graph_of actors input output channels.now) back }
-    ensures { Decides result (AtRest (graph_of actors input output channels.now)) }
+fn at_rest(net: &Net, back: u64) -> bool
+    requires { KeptBack (net_graph net.now) back }
+    ensures { Decides result (AtRest (net_graph net.now)) }
 {
-    covers(with(back, input, true), actors)
+    covers(with(back, net.input, true), net.actors)
 }
 
 // The first of answers 7 to 11 that applies. Without one the repetition numbers stand in q and the skips in s. The slices after these
 // are lent to work in: `words` three for each actor, `between` one for each pair of them.
 pub fn numbers(
-    actors: usize,
-    input: usize,
-    output: usize,
-    channels: &[u32],
+    net: &Net,
     q: &mut [u64],
     s: &mut [u64],
     words: &mut [u64],
@@ -90,39 +89,27 @@ pub fn numbers(
     into: &mut [u64],
     out: &mut [u64],
     hints: &mut [u64],
-) -> GraphAnswer
-    requires drawn { Drawn (graph_of actors input output channels.now) × (length words.old ≡ 3 * actors) × (actors * actors ≤ length between.old) }
-    requires actors_in_bounds { (actors ≤ length q.old) × (actors ≤ length s.old) × (actors ≤ length awaits.old) × (length channels.now / 5 ≤ length kept.old / 5) }
-    requires channels_in_bounds { (length channels.now / 5 ≤ length tokens.old) × (actors ≤ length left.old) × (actors ≤ length ready.old) }
-    requires channels_in_bounds_2 { (actors + length channels.now / 5 ≤ length into.old) × (actors + length channels.now / 5 ≤ length out.old) × (0 < length hints.old) }
-    ensures { Judged (graph_of actors input output channels.now) result q.new s.new }
+) -> Result<(), Fault>
+    requires drawn { (length words.old ≡ 3 * net.now.actors) × (net.now.actors * net.now.actors ≤ length between.old) }
+    requires actors_in_bounds { (net.now.actors ≤ length q.old) × (net.now.actors ≤ length s.old) × (net.now.actors ≤ length awaits.old) × (length net.now.channels.now / 5 ≤ length kept.old / 5) }
+    requires channels_in_bounds { (length net.now.channels.now / 5 ≤ length tokens.old) × (net.now.actors ≤ length left.old) × (net.now.actors ≤ length ready.old) }
+    requires channels_in_bounds_2 { (net.now.actors + length net.now.channels.now / 5 ≤ length into.old) × (net.now.actors + length net.now.channels.now / 5 ≤ length out.old) × (0 < length hints.old) }
+    ensures { Judged (net_graph net.now) result q.new s.new }
 {
-    let back = draw::draw(actors, input, output, channels, words, between);
-    let zero = reach::unskipped(actors, input, output, channels, words, between);
-    let found = balance(
-        actors, input, output, channels, words, between, zero, q, awaits, left,
-    );
-    match found {
-        Numbering::Unreached => return GraphAnswer::Reach,
-        Numbering::Unbalanced => return GraphAnswer::Balance,
-        Numbering::Found => {}
-    }
-    if q[input] != 1 {
-        return GraphAnswer::NotOnce;
-    }
-    if q[output] != 1 {
-        return GraphAnswer::NotOnce;
+    let back = draw::draw(net, words, between);
+    let zero = reach::unskipped(net, words);
+    balance(net, words, between, zero, q, awaits, left)?;
+    if q[net.input] != 1 || q[net.output] != 1 {
+        return Err(Fault::NotOnce);
     }
     if !knot::lives(
-        actors, input, output, channels, q, awaits, kept, s, tokens, left, ready, into, out, hints,
+        net, q, awaits, kept, s, tokens, left, ready, into, out, hints,
     ) {
-        return GraphAnswer::Deadlock;
+        return Err(Fault::Deadlock);
     }
-    if !at_rest(actors, input, output, channels, back) {
-        return GraphAnswer::Restless;
+    if !at_rest(net, back) {
+        return Err(Fault::Restless);
     }
-    skip::skips(
-        actors, input, output, channels, words, between, zero, into, q, s,
-    );
-    GraphAnswer::Fine
+    skip::skips(net, words, zero, into, q, s);
+    Ok(())
 }

@@ -2,43 +2,49 @@
 // is 0, the repetition numbers and the skips.
 #![tactic(auto)]
 
-ghost use Rattle.std.specs.Prelude.{◌≤◌, length};
 ghost use Rattle.trial.specs.Flat.{graph_of};
+ghost use Rattle.trial.specs.Net.{net_graph};
 ghost use Rattle.graphs.specs.Small.{Small};
 
-use graph::GraphAnswer;
+use graph::Fault;
 use std::io;
+use trial::net::Net;
 
 // 01's number of the answer.
-fn number(answer: GraphAnswer) -> u64 {
+fn number(answer: Result<(), Fault>) -> u64 {
     match answer {
-        GraphAnswer::Fine => 0,
-        GraphAnswer::Reach => 7,
-        GraphAnswer::Balance => 8,
-        GraphAnswer::NotOnce => 9,
-        GraphAnswer::Deadlock => 10,
-        GraphAnswer::Restless => 11,
+        Ok(()) => 0,
+        Err(Fault::Reach) => 7,
+        Err(Fault::Balance) => 8,
+        Err(Fault::NotOnce) => 9,
+        Err(Fault::Deadlock) => 10,
+        Err(Fault::Restless) => 11,
     }
 }
 
-// The first n values.
-fn print(rt: &impl Print, values: &[u64], n: usize) -> io::Result<()>
-    requires { n ≤ length values.now }
+// A graph that is written out below.
+#[tactic(auto, using(crate::proofs::Small::small_drawn))]
+fn net(actors: usize, input: usize, output: usize, channels: &[u32]) -> Net<'_>
+    requires { Small (graph_of actors input output channels.now) }
+    ensures { Small (net_graph result) }
 {
-    for value in &values[..n] {
+    Net {
+        actors,
+        input,
+        output,
+        channels,
+    }
+}
+
+fn print(rt: &impl Print, values: &[u64]) -> io::Result<()> {
+    for value in values {
         print!(rt; " {value}")?;
     }
     Ok(())
 }
 
-fn judge(
-    rt: &impl Print,
-    actors: usize,
-    input: usize,
-    output: usize,
-    channels: &[u32],
-) -> io::Result<()>
-    requires { Small (graph_of actors input output channels.now) }
+fn judge(rt: &impl Print, net: &Net) -> io::Result<()>
+    requires { Small (net_graph net.now) }
 {
     let mut q = [0u64; 3];
     let mut s = [0u64; 3];
@@ -52,14 +58,11 @@ fn judge(
     let mut into = [0u64; 5];
     let mut out = [0u64; 5];
     let mut hints = [0u64; 1];
-    let answer = number(graph::numbers(
-        actors,
-        input,
-        output,
-        channels,
+    let answer = graph::numbers(
+        net,
         &mut q,
         &mut s,
-        &mut words[..3 * actors],
+        &mut words[..3 * net.actors],
         &mut between,
         &mut awaits,
         &mut kept,
@@ -69,31 +72,31 @@ fn judge(
         &mut into,
         &mut out,
         &mut hints,
-    ));
-    print!(rt; "{answer}")?;
-    if answer == 0 {
-        print(rt, &q, actors)?;
-        print(rt, &s, actors)?;
+    );
+    print!(rt; "{}", number(answer))?;
+    if answer.is_ok() {
+        print(rt, &q[..net.actors])?;
+        print(rt, &s[..net.actors])?;
     }
     println!(rt;)
 }
 
 // Actors, input, output; then the channels: tail, head, produce, consume, tokens.
 fn main(rt: HostRuntime) -> io::Result<()> {
-    judge(&rt, 3, 0, 2, &[0, 1, 3, 1, 0, 1, 2, 1, 3, 0])?; // the chain
-    judge(&rt, 3, 0, 2, &[0, 1, 3, 1, 0, 1, 2, 1, 3, 2])?; // C1
-    judge(&rt, 3, 0, 2, &[0, 1, 3, 1, 0, 1, 2, 1, 3, 3])?; // C3
-    judge(&rt, 2, 0, 1, &[0, 1, 1, 1, 0, 1, 0, 1, 1, 0])?; // E1
-    judge(&rt, 2, 0, 1, &[0, 1, 1, 1, 0, 1, 0, 1, 1, 1])?; // E2
-    judge(&rt, 2, 0, 1, &[0, 1, 1, 1, 0, 0, 1, 2, 1, 0])?; // F1
-    judge(&rt, 2, 0, 1, &[0, 1, 2, 3, 0])?; // F2
-    judge(&rt, 3, 0, 2, &[0, 1, 4096, 1, 0, 1, 2, 1, 4096, 0])?; // F3
-    judge(&rt, 3, 0, 2, &[0, 1, 4096, 1, 0, 1, 2, 2, 1, 0])?; // F4
-    judge(&rt, 2, 0, 1, &[])?; // F5
-    judge(&rt, 2, 0, 1, &[0, 1, 1, 1, 0, 0, 1, 1, 1, 0])?; // two equal channels
-    judge(&rt, 2, 0, 1, &[0, 1, 1, 1, 0, 1, 1, 2, 2, 0])?; // a self-loop without tokens
-    judge(&rt, 2, 0, 1, &[0, 1, 1, 1, 0, 1, 1, 2, 2, 2])?; // and with
-    judge(&rt, 1, 0, 0, &[])?; // one actor, no channel
-    judge(&rt, 2, 0, 0, &[0, 1, 2, 1, 0, 1, 0, 1, 2, 2])?; // a ring, input and output one actor
+    judge(&rt, &net(3, 0, 2, &[0, 1, 3, 1, 0, 1, 2, 1, 3, 0]))?; // the chain
+    judge(&rt, &net(3, 0, 2, &[0, 1, 3, 1, 0, 1, 2, 1, 3, 2]))?; // C1
+    judge(&rt, &net(3, 0, 2, &[0, 1, 3, 1, 0, 1, 2, 1, 3, 3]))?; // C3
+    judge(&rt, &net(2, 0, 1, &[0, 1, 1, 1, 0, 1, 0, 1, 1, 0]))?; // E1
+    judge(&rt, &net(2, 0, 1, &[0, 1, 1, 1, 0, 1, 0, 1, 1, 1]))?; // E2
+    judge(&rt, &net(2, 0, 1, &[0, 1, 1, 1, 0, 0, 1, 2, 1, 0]))?; // F1
+    judge(&rt, &net(2, 0, 1, &[0, 1, 2, 3, 0]))?; // F2
+    judge(&rt, &net(3, 0, 2, &[0, 1, 4096, 1, 0, 1, 2, 1, 4096, 0]))?; // F3
+    judge(&rt, &net(3, 0, 2, &[0, 1, 4096, 1, 0, 1, 2, 2, 1, 0]))?; // F4
+    judge(&rt, &net(2, 0, 1, &[]))?; // F5
+    judge(&rt, &net(2, 0, 1, &[0, 1, 1, 1, 0, 0, 1, 1, 1, 0]))?; // two equal channels
+    judge(&rt, &net(2, 0, 1, &[0, 1, 1, 1, 0, 1, 1, 2, 2, 0]))?; // a self-loop without tokens
+    judge(&rt, &net(2, 0, 1, &[0, 1, 1, 1, 0, 1, 1, 2, 2, 2]))?; // and with
+    judge(&rt, &net(1, 0, 0, &[]))?; // one actor, no channel
+    judge(&rt, &net(2, 0, 0, &[0, 1, 2, 1, 0, 1, 0, 1, 2, 2]))?; // a ring, input and output one actor
     Ok(())
 }

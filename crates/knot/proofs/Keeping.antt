@@ -2,21 +2,21 @@
 use mathlib.Core.Path.{◌≡◌, refl, sym, ap, ◌∙◌}
 use mathlib.Core.Logic.{⊎_elim, ◌≢◌}
 use mathlib.Core.Bool.{Bool, true, false}
-use mathlib.Core.List.{List}
-use Prim.Native.Nat.{ℕ, ◌+◌, ◌*◌, ◌/◌, ◌%◌, ◌<◌, ◌≤◌, ◌∣◌}
-use native.Mathlib.Nat.{dvd_refl, dvd-zero, dvd_trans, dvd-mod_iff, one-dvd, mul-div_cancel', mul-one, mul-zero, zero-div, le_refl}
+use mathlib.Core.List.{List, ◌++◌}
+use Prim.Native.Nat.{ℕ, ◌+◌, ◌-◌, ◌*◌, ◌/◌, ◌%◌, ◌<◌, ◌≤◌, ◌∣◌, max}
+use native.Mathlib.Nat.{add-zero, dvd_refl, dvd-zero, dvd_trans, dvd-mod_iff, one-dvd, mul-div_cancel', mul-one, mul-zero, zero-div, le_refl}
 use native.Mathlib.Omega.{arith}
 use lib.Dec.{ltb}
-use lib.ListN.{length, get_or, set, take, length-set}
-use lib.Seq.{get_or-set_same, get_or-set_other, get_or-take, length-take-le}
+use borrow.Rule.Slice.PartMut.{put_mid, post_of}
+use lib.ListN.{length, length-drop, get_or, take, drop, get_or-append}
+use lib.Seq.{get_or-take, get_or-drop, get_or-append_right, length-take-le}
 use borrow.Author.Count.{below_more}
 use Rattle.sdf.specs.Graph.{Channel, Graph}
-use Rattle.sdf.proofs.Numbers.{eq_or_ne, chosen, passed}
+use Rattle.sdf.proofs.Numbers.{lt_or_ge, eq_or_ne, chosen, passed}
 use Rattle.sdf.proofs.Settle.{put, put_same, put_other}
 use Rattle.sets.specs.Decides.{Decides}
 use Rattle.sets.specs.Sets.{has, Put}
 use Rattle.sets.proofs.Bits.{has_none, has_small, has_bit}
-use Rattle.sets.proofs.Vectors.{Filled}
 use Rattle.trial.specs.Flat.{channel_at, graph_of, vector}
 use Rattle.trial.specs.Knot.{enough, waits, Kept, Shares, Copied, Unit}
 
@@ -41,96 +41,53 @@ pub within_asks : (g : Graph) (q : ℕ → ℕ) (core c : ℕ) (e : Channel) (to
 within_asks g q core c e tokens need is t h same all =
     rw (← is, same, all) (answers (ltb e.tokens (enough e q)) (omega (arith, has_small core e.tail)) (omega (arith, has_small core e.head)))
 
--- The list after five numbers are stored from place t on.
-abbrev five : List ℕ → ℕ → ℕ → ℕ → ℕ → ℕ → ℕ → List ℕ
-five l t a b c d e = set (set (set (set (set l t a) (t + 1) b) (t + 2) c) (t + 3) d) (t + 4) e
-
-module _ (l : List ℕ) (t a b c d e : ℕ) where
-  -- The list after one, two, three and four of the stores.
-  abbrev one : List ℕ
-  one = set l t a
-
-  abbrev two : List ℕ
-  two = set one (t + 1) b
-
-  abbrev three : List ℕ
-  three = set two (t + 2) c
-
-  abbrev four : List ℕ
-  four = set three (t + 3) d
-
-  -- Elsewhere it is as it was.
-  five_other : (j : ℕ) → ((k : ℕ) → k < 5 → j ≢ t + k) → get_or (five l t a b c d e) j 0 ≡ get_or l j 0
-  five_other j far =
-      get_or-set_other four (t + 4) j e 0 (far 4 (omega arith))
-      ∙ get_or-set_other three (t + 3) j d 0 (far 3 (omega arith))
-      ∙ get_or-set_other two (t + 2) j c 0 (far 2 (omega arith))
-      ∙ get_or-set_other one (t + 1) j b 0 (far 1 (omega arith))
-      ∙ get_or-set_other l t j a 0 (λ q. far 0 (omega arith) (omega arith))
-
-  -- The first of the five stands in its place.
-  five_first : t < length l → get_or (five l t a b c d e) t 0 ≡ a
-  five_first room =
-      get_or-set_other four (t + 4) t e 0 (λ q. omega arith)
-      ∙ get_or-set_other three (t + 3) t d 0 (λ q. omega arith)
-      ∙ get_or-set_other two (t + 2) t c 0 (λ q. omega arith)
-      ∙ get_or-set_other one (t + 1) t b 0 (λ q. omega arith)
-      ∙ get_or-set_same l t a 0 room
-
-  -- The second stands in its place.
-  five_second : t + 1 < length l → get_or (five l t a b c d e) (t + 1) 0 ≡ b
-  five_second room =
-      get_or-set_other four (t + 4) (t + 1) e 0 (λ q. omega arith)
-      ∙ get_or-set_other three (t + 3) (t + 1) d 0 (λ q. omega arith)
-      ∙ get_or-set_other two (t + 2) (t + 1) c 0 (λ q. omega arith)
-      ∙ get_or-set_same one (t + 1) b 0 (simp length-set room)
-
-  -- The third stands in its place.
-  five_third : t + 2 < length l → get_or (five l t a b c d e) (t + 2) 0 ≡ c
-  five_third room =
-      get_or-set_other four (t + 4) (t + 2) e 0 (λ q. omega arith)
-      ∙ get_or-set_other three (t + 3) (t + 2) d 0 (λ q. omega arith)
-      ∙ get_or-set_same two (t + 2) c 0 (simp length-set room)
-
-  -- The fourth stands in its place.
-  five_fourth : t + 3 < length l → get_or (five l t a b c d e) (t + 3) 0 ≡ d
-  five_fourth room =
-      get_or-set_other four (t + 4) (t + 3) e 0 (λ q. omega arith)
-      ∙ get_or-set_same three (t + 3) d 0 (simp length-set room)
-
-  -- The fifth stands in its place.
-  five_fifth : t + 4 < length l → get_or (five l t a b c d e) (t + 4) 0 ≡ e
-  five_fifth room = get_or-set_same four (t + 4) e 0 (simp length-set room)
-
 -- Two channels of flat lists are the same where their five numbers are.
-same_channel : (a b : List ℕ) (i j : ℕ) → get_or a (5 * i) 0 ≡ get_or b (5 * j) 0 → get_or a (5 * i + 1) 0 ≡ get_or b (5 * j + 1) 0 → get_or a (5 * i + 2) 0 ≡ get_or b (5 * j + 2) 0
-    → get_or a (5 * i + 3) 0 ≡ get_or b (5 * j + 3) 0 → get_or a (5 * i + 4) 0 ≡ get_or b (5 * j + 4) 0 → channel_at a i ≡ channel_at b j
-same_channel a b i j p q r s t = cc
+same_channel : (a b : List ℕ) (i j : ℕ) → ((k : ℕ) → k < 5 → get_or a (5 * i + k) 0 ≡ get_or b (5 * j + k) 0) → channel_at a i ≡ channel_at b j
+same_channel a b i j same =
+    let p : get_or a (5 * i) 0 ≡ get_or b (5 * j) 0 = rw (add-zero (5 * i), add-zero (5 * j)) at (same 0 (omega arith)) in
+    let q = same 1 (omega arith) in
+    let r = same 2 (omega arith) in
+    let s = same 3 (omega arith) in
+    let t = same 4 (omega arith) in
+    cc
 
--- The numbers of a channel stored in another's place are that channel there, and the other channels are as they were.
-pub copied : (flat before : List ℕ) (c d : ℕ) → d < length before / 5
-    → Copied flat c d before (five before (5 * d) (get_or flat (5 * c) 0) (get_or flat (5 * c + 1) 0) (get_or flat (5 * c + 2) 0) (get_or flat (5 * c + 3) 0) (get_or flat (5 * c + 4) 0))
-copied flat before c d room =
-    let v0 = get_or flat (5 * c) 0 in
-    let v1 = get_or flat (5 * c + 1) 0 in
-    let v2 = get_or flat (5 * c + 2) 0 in
-    let v3 = get_or flat (5 * c + 3) 0 in
-    let v4 = get_or flat (5 * c + 4) 0 in
-    let after = five before (5 * d) v0 v1 v2 v3 v4 in
-    let other = five_other before (5 * d) v0 v1 v2 v3 v4 in
+module _ (xs ys : List ℕ) (a k : ℕ) (size : length ys ≡ k) (room : a + k ≤ length xs) where
+  front : length (take a xs) ≡ a
+  front = length-take-le a xs (omega arith)
+
+  -- Where k numbers from place a on are replaced, the new ones stand there,
+  mid_inside : (j : ℕ) → j < k → get_or (put_mid a k xs ys) (a + j) 0 ≡ get_or ys j 0
+  mid_inside j inside =
+      let e : a + j - length (take a xs) ≡ j = omega (arith, front) in
+      get_or-append_right (take a xs) (ys ++ post_of a k xs) (a + j) 0 (omega (arith, front)) ∙ rw e (get_or-append ys (post_of a k xs) 0 j (omega (arith, size)))
+
+  -- and what stood before them
+  mid_before : (i : ℕ) → i < a → get_or (put_mid a k xs ys) i 0 ≡ get_or xs i 0
+  mid_before i before = get_or-append (take a xs) (ys ++ post_of a k xs) 0 i (omega (arith, front)) ∙ get_or-take a xs i 0 before
+
+  -- or behind them still does.
+  mid_behind : (i : ℕ) → a + k ≤ i → get_or (put_mid a k xs ys) i 0 ≡ get_or xs i 0
+  mid_behind i behind =
+      let e : a + (k + (i - length (take a xs) - length ys)) ≡ i = omega (arith, front, size) in
+      get_or-append_right (take a xs) (ys ++ post_of a k xs) i 0 (omega (arith, front))
+      ∙ get_or-append_right ys (post_of a k xs) (i - length (take a xs)) 0 (omega (arith, front, size))
+      ∙ get_or-drop k (drop a xs) (i - length (take a xs) - length ys) 0
+      ∙ get_or-drop a xs (k + (i - length (take a xs) - length ys)) 0
+      ∙ ap (λ (x : ℕ). get_or xs x 0) e
+
+-- The numbers of a channel in another's place are that channel there, and the other channels are as they were.
+pub copied : (flat before five : List ℕ) (c d k m : ℕ) → k ≡ 5 → m ≡ 5 → c < length flat / 5 → d < length before / 5 → five ≡ take m (drop (5 * c) flat)
+    → Copied flat c d before (put_mid (5 * d) k before five)
+copied flat before five c d k m count same_count room room' is =
+    let size : length five ≡ k = rw is (length-take-le m (drop (5 * c) flat) (rw length-drop (omega arith)) ∙ omega arith) in
+    let fits : 5 * d + k ≤ length before = omega arith in
     record {
-      there = same_channel after flat d c
-          (five_first before (5 * d) v0 v1 v2 v3 v4 (omega arith))
-          (five_second before (5 * d) v0 v1 v2 v3 v4 (omega arith))
-          (five_third before (5 * d) v0 v1 v2 v3 v4 (omega arith))
-          (five_fourth before (5 * d) v0 v1 v2 v3 v4 (omega arith))
-          (five_fifth before (5 * d) v0 v1 v2 v3 v4 (omega arith));
-      others = λ i n. same_channel after before i i
-          (other (5 * i) (λ k l e. n (omega arith)))
-          (other (5 * i + 1) (λ k l e. n (omega arith)))
-          (other (5 * i + 2) (λ k l e. n (omega arith)))
-          (other (5 * i + 3) (λ k l e. n (omega arith)))
-          (other (5 * i + 4) (λ k l e. n (omega arith)));
+      there = same_channel _ flat d c
+          (λ j l. mid_inside before five (5 * d) k size fits j (omega arith) ∙ rw is (get_or-take m (drop (5 * c) flat) j 0 (omega arith) ∙ get_or-drop (5 * c) flat j 0));
+      others = λ i n. same_channel _ before i i (λ j l. ⊎_elim
+          (λ h. mid_before before five (5 * d) k size fits (5 * i + j) (omega arith))
+          (λ h. mid_behind before five (5 * d) k size fits (5 * i + j) (omega (arith, n)))
+          (lt_or_ge i d));
     }
 
 -- Of the first c channels those within the core whose heads have to wait stand first in the list, n of them.
@@ -207,21 +164,12 @@ keeping_end {q} {core} {n} {kept} actors input output flat k room =
   where
     same : (d : ℕ) → d < n → channel_at (take (5 * n) kept) d ≡ channel_at kept d
     same d l =
-        same_channel (take (5 * n) kept) kept d d
-        (get_or-take (5 * n) kept (5 * d) 0 (omega arith))
-        (get_or-take (5 * n) kept (5 * d + 1) 0 (omega arith))
-        (get_or-take (5 * n) kept (5 * d + 2) 0 (omega arith))
-        (get_or-take (5 * n) kept (5 * d + 3) 0 (omega arith))
-        (get_or-take (5 * n) kept (5 * d + 4) 0 (omega arith))
+        same_channel (take (5 * n) kept) kept d d (λ k h. get_or-take (5 * n) kept (5 * d + k) 0 (omega arith))
 
 -- What divides x and y divides a and b.
 pub record Dividing (a b x y : ℕ) : Type 0 where
   pub positive : 0 < x
   pub divides : (d : ℕ) → d ∣ x → d ∣ y → (d ∣ a) × (d ∣ b)
-
--- Before the first division.
-pub dividing_start : {a b : ℕ} → 0 < a → Dividing a b a b
-dividing_start p = record { positive = p; divides = λ d l m. (l, m) }
 
 -- A division: the rest takes the place of the larger.
 pub dividing_turn : {a b x y : ℕ} → Dividing a b x y → 0 < y → Dividing a b y (x % y)
@@ -238,10 +186,6 @@ pub record Uniting (q : ℕ → ℕ) (core todo d : ℕ) : Type 0 where
   pub inside : (v : ℕ) → has todo v ≡ 1 → has core v ≡ 1
   pub divides : (v : ℕ) → has core v ≡ 1 → has todo v ≡ 0 → d ∣ q v
 
--- Before anybody is passed.
-pub uniting_start : (q : ℕ → ℕ) (core d : ℕ) → Uniting q core core d
-uniting_start q core d = record { inside = λ v h. h; divides = λ v h z. absurd (omega arith) }
-
 -- One more is passed.
 pub uniting_turn : {q : ℕ → ℕ} {core todo d v e less : ℕ} → Uniting q core todo d → Put todo v 0 less → e ∣ q v → e ∣ d → Uniting q core less e
 uniting_turn {q} {core} {todo} {d} {v} {e} {less} s off own rest =
@@ -256,28 +200,32 @@ uniting_turn {q} {core} {todo} {d} {v} {e} {less} s off own rest =
           (eq_or_ne w v);
     }
 
--- All are passed.
-pub uniting_end : {q : ℕ → ℕ} {core todo d : ℕ} (actors : ℕ) → Uniting q core todo d → todo ≡ 0 → 0 < d → Unit actors q core d
-uniting_end {todo = todo} actors s e p = record { divides = λ v l h. s.divides v h (ap (λ (x : ℕ). has x v) e ∙ has_none v); positive = p }
-
 -- 1 divides every number.
 pub unit_one : (actors : ℕ) (q : ℕ → ℕ) (core d : ℕ) → d ≡ 1 → Unit actors q core d
 unit_one actors q core d e = record { divides = λ v l h. rw e (one-dvd (q v)); positive = omega arith }
 
--- A number, or 0 outside the core, is at most the number.
-pub share_fits : (n core v : ℕ) → n * has core v ≤ n
-share_fits n core v = ⊎_elim (λ z. omega (arith, ap (λ (x : ℕ). n * x) z)) (λ o. omega (arith, ap (λ (x : ℕ). n * x) o)) (has_bit core v)
+-- All are passed.
+pub uniting_end : {q : ℕ → ℕ} {core todo d e : ℕ} (actors : ℕ) → Uniting q core todo d → todo ≡ 0 → e ≡ max d 1 → Unit actors q core e
+uniting_end {q} {core} {todo} {d} {e} actors s z most =
+    ⊎_elim
+    (λ p. let same : e ≡ d = omega arith in record { divides = λ v l h. rw same (s.divides v h (ap (λ (x : ℕ). has x v) z ∙ has_none v)); positive = omega arith })
+    (λ none. unit_one actors q core e (omega arith))
+    (lt_or_ge 0 d)
+
+-- A number, or 0 for those outside the set, is at most the number.
+pub share_fits : (n set v : ℕ) {bit : ℕ} → bit ≡ has set v → n * bit ≤ n
+share_fits n set v same = ⊎_elim (λ z. omega (arith, ap (λ (x : ℕ). n * x) (same ∙ z))) (λ o. omega (arith, ap (λ (x : ℕ). n * x) (same ∙ o))) (has_bit set v)
 
 -- Each entry the number of one of the core by what divides them all, and 0 of the others: these are shares.
-pub shares_end : {q : ℕ → ℕ} {core d : ℕ} {before share : List ℕ} (actors : ℕ) → Unit actors q core d → Filled (λ v n. n ≡ q v * has core v / d) actors before share → Shares actors q core (vector share)
-shares_end {q} {core} {d} actors u f =
+pub shares_end : {q : ℕ → ℕ} {core d : ℕ} (share : List ℕ) (actors : ℕ) → Unit actors q core d → ((v : ℕ) → v < actors → get_or share v 0 ≡ q v * has core v / d) → Shares actors q core (vector share)
+shares_end {q} {core} {d} share actors u f =
     record {
       times = d;
       positive = u.positive;
       inside = λ v l h.
           let e : q v * has core v / d ≡ q v / d = rw (h, mul-one (q v)) in
-          sym (ap (λ (x : ℕ). d * x) (f.entries v l ∙ e) ∙ mul-div_cancel' d (u.divides v l h));
+          sym (ap (λ (x : ℕ). d * x) (f v l ∙ e) ∙ mul-div_cancel' d (u.divides v l h));
       outside = λ v l h.
           let e : q v * has core v / d ≡ 0 = rw (h, mul-zero (q v), zero-div d) in
-          f.entries v l ∙ e;
+          f v l ∙ e;
     }

@@ -10,14 +10,16 @@ ghost use Rattle.sets.specs.Decides.{Decides};
 ghost use Rattle.sets.specs.Sets.{has, Below};
 ghost use Rattle.sdf.specs.Balance.{AtMost, Balanced};
 ghost use Rattle.sdf.specs.Order.{Lives};
-ghost use Rattle.trial.specs.Flat.{channel_at, graph_of, vector, Drawn};
+ghost use Rattle.trial.specs.Flat.{channel_at, graph_of, vector};
+ghost use Rattle.trial.specs.Net.{net_graph};
 ghost use Rattle.trial.specs.Knot.{waits, Awaits, Done, Core, Kept, Shares, Released, Wanted, Copied, Unit};
 
-use sets::{all, common, has, joined, least, minus, with, without};
+use sets::{Members, all, common, has, joined, minus, with};
 use trial::channel::Channel;
-use trial::links::link;
+use trial::links::{End, link};
+use trial::net::Net;
 use trial::run;
-use units::Firings;
+use units::{Count, Firings};
 
 // Those left without v, if it waits for none of them.
 fn release(left: u64, awaits: u64, v: usize) -> u64
@@ -28,52 +30,30 @@ fn release(left: u64, awaits: u64, v: usize) -> u64
 }
 
 // One pass over the actors in the order in which they were met. The order is a hint: what stands there matters for the time only.
-fn pass(
-    actors: usize,
-    input: usize,
-    output: usize,
-    channels: &[u32],
-    q: &[u64],
-    awaits: &[u64],
-    met: &[u64],
-    left: u64,
-) -> u64
-    requires drawn { Drawn (graph_of actors input output channels.now) × Balanced (graph_of actors input output channels.now) (vector q.now) × Awaits (graph_of actors input output channels.now) (vector q.now) (vector awaits.now) × (actors ≤ length awaits.now) × (actors ≤ length met.now) }
-    requires done { Done (graph_of actors input output channels.now) (vector q.now) left × Below left actors }
-    ensures { Done (graph_of actors input output channels.now) (vector q.now) result × Below result actors × (result ≤ left) }
+fn pass(net: &Net, q: &[u64], awaits: &[u64], met: &[u64], left: u64) -> u64
+    requires drawn { Balanced (net_graph net.now) (vector q.now) × Awaits (net_graph net.now) (vector q.now) (vector awaits.now) × (net.now.actors ≤ length awaits.now) × (net.now.actors ≤ length met.now) }
+    requires done { Done (net_graph net.now) (vector q.now) left × Below left net.now.actors }
+    ensures { Done (net_graph net.now) (vector q.now) result × Below result net.now.actors × (result ≤ left) }
 {
     let mut rest = left;
-    let mut i = 0;
-    while i < actors {
-        let v = met[i] as usize;
-        if v < actors {
+    for v in &met[..net.actors] {
+        let v = *v as usize;
+        if v < net.actors {
             rest = release(rest, awaits[v], v);
         }
-        i += 1;
     }
     rest
 }
 
 // Those who are left when all have fired who wait for nobody left.
-fn ordered(
-    actors: usize,
-    input: usize,
-    output: usize,
-    channels: &[u32],
-    q: &[u64],
-    awaits: &[u64],
-    met: &[u64],
-) -> u64
-    requires { Drawn (graph_of actors input output channels.now) × Balanced (graph_of actors input output channels.now) (vector q.now) × Awaits (graph_of actors input output channels.now) (vector q.now) (vector awaits.now) × (actors ≤ length awaits.now) × (actors ≤ length met.now) }
-    ensures { Done (graph_of actors input output channels.now) (vector q.now) result × Below result actors }
+fn ordered(net: &Net, q: &[u64], awaits: &[u64], met: &[u64]) -> u64
+    requires { Balanced (net_graph net.now) (vector q.now) × Awaits (net_graph net.now) (vector q.now) (vector awaits.now) × (net.now.actors ≤ length awaits.now) × (net.now.actors ≤ length met.now) }
+    ensures { Done (net_graph net.now) (vector q.now) result × Below result net.now.actors }
 {
-    let mut left = all(actors);
+    let mut left = all(net.actors);
     loop {
-        let rest = pass(actors, input, output, channels, q, awaits, met, left);
-        if rest == 0 {
-            return rest;
-        }
-        if rest == left {
+        let rest = pass(net, q, awaits, met, left);
+        if rest == 0 || rest == left {
             return rest;
         }
         left = rest;
@@ -86,28 +66,17 @@ fn wanted(awaits: &[u64], left: u64) -> u64
     ensures { Wanted (vector awaits.now) left result }
 {
     let mut all = 0;
-    let mut todo = left;
-    while todo != 0 {
-        let v = least(todo);
+    for v in Members::of(left) {
         all = joined(all, awaits[v]);
-        todo = without(todo, v);
     }
     common(left, all)
 }
 
 // The core of those left: without those whom nobody awaits.
-fn core_of(
-    actors: usize,
-    input: usize,
-    output: usize,
-    channels: &[u32],
-    q: &[u64],
-    awaits: &[u64],
-    left: u64,
-) -> u64
-    requires drawn { Drawn (graph_of actors input output channels.now) × Balanced (graph_of actors input output channels.now) (vector q.now) × Awaits (graph_of actors input output channels.now) (vector q.now) (vector awaits.now) × (actors ≤ length awaits.now) }
-    requires done { Done (graph_of actors input output channels.now) (vector q.now) left × Below left actors }
-    ensures { Core (graph_of actors input output channels.now) (vector q.now) result × Below result actors }
+fn core_of(net: &Net, q: &[u64], awaits: &[u64], left: u64) -> u64
+    requires drawn { Balanced (net_graph net.now) (vector q.now) × Awaits (net_graph net.now) (vector q.now) (vector awaits.now) × (net.now.actors ≤ length awaits.now) }
+    requires done { Done (net_graph net.now) (vector q.now) left × Below left net.now.actors }
+    ensures { Core (net_graph net.now) (vector q.now) result × Below result net.now.actors }
 {
     let mut core = left;
     loop {
@@ -120,31 +89,20 @@ fn core_of(
 }
 
 // Whether channel c is within the core and its head has to wait for its tail.
-fn within(
-    actors: usize,
-    input: usize,
-    output: usize,
-    channels: &[u32],
-    q: &[u64],
-    core: u64,
-    c: usize,
-) -> bool
-    requires { Drawn (graph_of actors input output channels.now) × AtMost (graph_of actors input output channels.now) (vector q.now) (λ _. max_repetition) × (actors ≤ length q.now) × (c < length channels.now / 5) }
-    ensures { Decides result ((waits (graph_of actors input output channels.now) (vector q.now) c ≡ true) × (has core (channel_at channels.now c).tail ≡ 1) × (has core (channel_at channels.now c).head ≡ 1)) }
+fn within(net: &Net, q: &[u64], core: u64, c: usize) -> bool
+    requires { AtMost (net_graph net.now) (vector q.now) (λ _. max_repetition) × (net.now.actors ≤ length q.now) × (c < length net.now.channels.now / 5) }
+    ensures { Decides result ((waits (net_graph net.now) (vector q.now) c ≡ true) × (has core (channel_at net.now.channels.now c).tail ≡ 1) × (has core (channel_at net.now.channels.now c).head ≡ 1)) }
 {
-    let e = Channel::at(channels, c);
-    let tail = e.tail;
-    let head = e.head;
-    if has(core, tail) == 0 {
+    let e = Channel::at(net.channels, c);
+    if has(core, e.tail) == 0 || has(core, e.head) == 0 {
         return false;
     }
-    if has(core, head) == 0 {
-        return false;
-    }
-    if tail == head {
-        return e.tokens.count() < e.consume.count();
-    }
-    e.tokens.count() < Firings::of(q[tail]).tokens(e.produce).count()
+    let enough = if e.tail == e.head {
+        e.consume
+    } else {
+        Firings::of(q[e.tail]).tokens(e.produce)
+    };
+    e.tokens.count() < enough.count()
 }
 
 // Channel c, as channel d of another list.
@@ -152,37 +110,20 @@ fn copy(channels: &[u32], c: usize, d: usize, kept: &mut [u32])
     requires { (c < length channels.now / 5) × (d < length kept.old / 5) }
     ensures { Copied channels.now c d kept.old kept.new }
 {
-    let from = 5 * c;
-    let to = 5 * d;
-    kept[to] = channels[from];
-    kept[to + 1] = channels[from + 1];
-    kept[to + 2] = channels[from + 2];
-    kept[to + 3] = channels[from + 3];
-    kept[to + 4] = channels[from + 4];
+    kept[5 * d..5 * d + 5].copy_from_slice(&channels[5 * c..5 * c + 5]);
 }
 
 // The channels within the core on which somebody has to wait. Returns how many these are.
-fn keep(
-    actors: usize,
-    input: usize,
-    output: usize,
-    channels: &[u32],
-    q: &[u64],
-    core: u64,
-    kept: &mut [u32],
-) -> usize
-    requires { Drawn (graph_of actors input output channels.now) × AtMost (graph_of actors input output channels.now) (vector q.now) (λ _. max_repetition) × (actors ≤ length q.now) × (length channels.now / 5 ≤ length kept.old / 5) }
-    ensures { Kept (graph_of actors input output channels.now) (graph_of actors input output (take (5 * result) kept.new)) (vector q.now) core × (result ≤ length channels.now / 5) }
+fn keep(net: &Net, q: &[u64], core: u64, kept: &mut [u32]) -> usize
+    requires { AtMost (net_graph net.now) (vector q.now) (λ _. max_repetition) × (net.now.actors ≤ length q.now) × (length net.now.channels.now / 5 ≤ length kept.old / 5) }
+    ensures { Kept (net_graph net.now) (graph_of net.now.actors net.now.input net.now.output (take (5 * result) kept.new)) (vector q.now) core × (result ≤ length net.now.channels.now / 5) }
 {
-    let m = channels.len() / 5;
     let mut n = 0;
-    let mut c = 0;
-    while c < m {
-        if within(actors, input, output, channels, q, core, c) {
-            copy(channels, c, n, kept);
+    for c in 0..net.channel_count() {
+        if within(net, q, core, c) {
+            copy(net.channels, c, n, kept);
             n += 1;
         }
-        c += 1;
     }
     n
 }
@@ -195,9 +136,7 @@ fn divisor(a: u64, b: u64) -> u64
     let mut x = a;
     let mut y = b;
     while y != 0 {
-        let rest = x % y;
-        x = y;
-        y = rest;
+        (x, y) = (y, x % y);
     }
     x
 }
@@ -208,19 +147,13 @@ fn unit(actors: usize, q: &[u64], core: u64) -> u64
     ensures { Unit actors (vector q.now) core result }
 {
     let mut d = 0;
-    let mut todo = core;
-    while todo != 0 {
-        let v = least(todo);
+    for v in Members::of(core) {
         d = divisor(q[v], d);
         if d == 1 {
             return d;
         }
-        todo = without(todo, v);
     }
-    if d == 0 {
-        return 1;
-    }
-    d
+    d.max(1)
 }
 
 // The least share of the core's firings.
@@ -229,20 +162,15 @@ fn shares(actors: usize, q: &[u64], core: u64, share: &mut [u64])
     ensures { Shares actors (vector q.now) core (vector share.new) }
 {
     let d = unit(actors, q, core);
-    let mut v = 0;
-    while v < actors {
+    for v in 0..actors {
         share[v] = q[v] * has(core, v) / d;
-        v += 1;
     }
 }
 
 // 01, Deadlock: whether some legal order fires every actor exactly q times. `awaits` says for whom each actor has to wait. On entry `left`
 // holds actors in an order that helps; it and what follows are lent to work in.
 pub fn lives(
-    actors: usize,
-    input: usize,
-    output: usize,
-    channels: &[u32],
+    net: &Net,
     q: &[u64],
     awaits: &[u64],
     kept: &mut [u32],
@@ -254,23 +182,26 @@ pub fn lives(
     out: &mut [u64],
     hints: &mut [u64],
 ) -> bool
-    requires drawn { Drawn (graph_of actors input output channels.now) × Balanced (graph_of actors input output channels.now) (vector q.now) × Awaits (graph_of actors input output channels.now) (vector q.now) (vector awaits.now) × (actors ≤ length awaits.now) }
-    requires at_most { AtMost (graph_of actors input output channels.now) (vector q.now) (λ _. max_repetition) × (actors ≤ length q.now) }
-    requires channels_in_bounds { (length channels.now / 5 ≤ length kept.old / 5) × (actors ≤ length share.old) × (length channels.now / 5 ≤ length tokens.old) × (actors ≤ length left.old) × (actors ≤ length ready.old) }
-    requires channels_in_bounds_2 { (actors + length channels.now / 5 ≤ length into.old) × (actors + length channels.now / 5 ≤ length out.old) × (0 < length hints.old) }
-    ensures { Decides result (Lives (graph_of actors input output channels.now) (vector q.now)) }
+    requires drawn { Balanced (net_graph net.now) (vector q.now) × Awaits (net_graph net.now) (vector q.now) (vector awaits.now) × (net.now.actors ≤ length awaits.now) }
+    requires at_most { AtMost (net_graph net.now) (vector q.now) (λ _. max_repetition) × (net.now.actors ≤ length q.now) }
+    requires channels_in_bounds { (length net.now.channels.now / 5 ≤ length kept.old / 5) × (net.now.actors ≤ length share.old) × (length net.now.channels.now / 5 ≤ length tokens.old) × (net.now.actors ≤ length left.old) × (net.now.actors ≤ length ready.old) }
+    requires channels_in_bounds_2 { (net.now.actors + length net.now.channels.now / 5 ≤ length into.old) × (net.now.actors + length net.now.channels.now / 5 ≤ length out.old) × (0 < length hints.old) }
+    ensures { Decides result (Lives (net_graph net.now) (vector q.now)) }
 {
-    let late = ordered(actors, input, output, channels, q, awaits, left);
+    let late = ordered(net, q, awaits, left);
     if late == 0 {
         return true;
     }
-    let core = core_of(actors, input, output, channels, q, awaits, late);
-    let n = keep(actors, input, output, channels, q, core, kept);
-    shares(actors, q, core, share);
-    let inner = &kept[..5 * n];
-    link(actors, inner, 1, into);
-    link(actors, inner, 0, out);
-    run::lives(
-        actors, input, output, inner, share, tokens, left, ready, into, out, hints,
-    )
+    let core = core_of(net, q, awaits, late);
+    let n = keep(net, q, core, kept);
+    shares(net.actors, q, core, share);
+    let inner = Net {
+        actors: net.actors,
+        input: net.input,
+        output: net.output,
+        channels: &kept[..5 * n],
+    };
+    link(&inner, End::Head, into);
+    link(&inner, End::Tail, out);
+    run::lives(&inner, share, tokens, left, ready, into, out, hints)
 }

@@ -1,15 +1,15 @@
 -- 01, answer 21: the frame of the search, that of the graphs whose iteration takes time.
 use mathlib.Core.Path.{◌≡◌, refl}
 use mathlib.Core.Logic.{inl, inr, ◌⊎◌, ◌≢◌}
-use mathlib.Core.List.{List}
-use Prim.Native.Nat.{ℕ, zero, suc, ◌*◌, ◌/◌, ◌<◌, ◌≤◌, ◌∣◌}
+use Prim.Native.Nat.{ℕ, zero, suc, ◌<◌, ◌≤◌, ◌∣◌}
 use native.Mathlib.Nat.{dvd_refl, one-dvd}
 use native.Mathlib.Omega.{arith}
-use lib.ListN.{length, get_or}
 use Rattle.units.specs.Bounds.{max_ticks}
+use Rattle.edf.specs.Bounds.{AllBounded}
+use Rattle.edf.specs.Demand.{Works, iteration}
 use Rattle.edf.specs.Frame.{CommonMultiple}
 use Rattle.edf.proofs.Frame.{frame_divides}
-use Rattle.late.specs.Search.{counted, busy_period, Shares, Carries}
+use Rattle.late.specs.Search.{counted, busy_period, Carries}
 use Rattle.demand.proofs.Multiples.{Frames, frames_whole}
 
 -- Without weight the period does not count.
@@ -38,25 +38,25 @@ unfolding counted
 counted_carries p zero d = inr refl
 counted_carries p (suc w) d = inl d
 
--- The frame itself carries.
-pub frame_carries : {n F : ℕ} {p w : ℕ → ℕ} → CommonMultiple n p F → Carries n p w F F
-frame_carries {F = F} m = record { positive = m.positive; divides = dvd_refl F; each = λ i l. inl (m.multiple i l) }
+module _ (ws : Works) where
+  -- The frame itself carries.
+  pub frame_carries : {F : ℕ} → CommonMultiple ws.graphs (λ i. (ws.work i).period) F → Carries ws F F
+  frame_carries {F} m = record { positive = m.positive; divides = dvd_refl F; each = λ i l. inl (m.multiple i l) }
 
-module _ (heads weight : List ℕ) where
   -- The periods that count are within the bounds of periods.
-  pub busy_bounds : {F : ℕ} → Shares F heads weight → (i : ℕ) → i < length heads / 3
-      → (0 < busy_period heads weight i) × (busy_period heads weight i ≤ max_ticks)
-  busy_bounds g i l = counted_bounds (get_or heads (3 * i) 0) (get_or weight i 0) (g.period_low i l) (g.period_high i l)
+  pub busy_bounds : AllBounded ws → (i : ℕ) → i < ws.graphs → (0 < busy_period ws i) × (busy_period ws i ≤ max_ticks)
+  busy_bounds b i l =
+      let w = ws.work i in
+      counted_bounds w.period (iteration w) (b.work i l).period_low (b.work i l).period_high
 
   -- The frame of those that count carries.
-  pub busy_carries : {i f F : ℕ} → Frames (length heads / 3) (busy_period heads weight) f i → length heads / 3 ≤ i
-      → CommonMultiple (length heads / 3) (λ k. get_or heads (3 * k) 0) F
-      → Carries (length heads / 3) (λ k. get_or heads (3 * k) 0) (λ k. get_or weight k 0) F f
+  pub busy_carries : {i f F : ℕ} → Frames ws.graphs (busy_period ws) f i → ws.graphs ≤ i
+      → CommonMultiple ws.graphs (λ i. (ws.work i).period) F → Carries ws F f
   busy_carries g l m =
       let b = (frames_whole g l).0 in
       record {
         positive = b.common.positive;
         divides = frame_divides b
-            (record { positive = m.positive; multiple = λ k h. counted_divides (get_or heads (3 * k) 0) (get_or weight k 0) (m.multiple k h) });
-        each = λ k h. counted_carries (get_or heads (3 * k) 0) (get_or weight k 0) (b.common.multiple k h);
+            (record { positive = m.positive; multiple = λ k h. counted_divides (ws.work k).period (iteration (ws.work k)) (m.multiple k h) });
+        each = λ k h. counted_carries (ws.work k).period (iteration (ws.work k)) (b.common.multiple k h);
       }

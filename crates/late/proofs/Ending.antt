@@ -1,27 +1,22 @@
 -- 01, answer 21: the length from which on demand is within by a bound that needs no rounding.
-use mathlib.Core.Path.{◌≡◌, ◌∙◌, ap, refl, sym}
-use mathlib.Core.Logic.{inl, inr, ⊎_elim, ⊎_map}
-use mathlib.Core.List.{List}
+use mathlib.Core.Path.{◌≡◌, ap, refl}
+use mathlib.Core.Logic.{inl, inr, ⊎_elim}
 use Prim.Native.Nat.{ℕ, zero, suc, ◌+◌, ◌*◌, ◌-◌, ◌/◌, ◌%◌, ◌^◌, ◌<◌, ◌≤◌, min}
-use native.Mathlib.Nat.{le_refl, le_trans, le_of_lt, sub-le, sub-eq-zero_of_le, mul-le-mul, mul-le-mul_left, mul-le-mul_right, lt_of_mul-lt-mul_left, lt_of_le_of_lt}
+use native.Mathlib.Nat.{le_refl, le_trans, le_of_lt, sub-le, mul-le-mul, mul-le-mul_left, mul-le-mul_right, lt_of_mul-lt-mul_left, lt_of_le_of_lt}
 use native.Mathlib.Nat.{le-div_iff_mul-le, le_of_dvd, mod-lt, mod-add-div', zero-mul, suc-mul, add-zero, add_assoc}
 use native.Mathlib.Nat.{div-mul_cancel, pos_of_dvd_of_pos, lt-mul-div-succ, min-eq_left, min-eq_right, eq-or-lt_of_le, le_of_suc-le-suc}
 use native.Mathlib.Omega.{arith}
 use lib.Dec.{lit<}
-use lib.ListN.{length, get_or}
 use Rattle.units.specs.Bounds.{max_ticks}
 use Rattle.sdf.specs.Sum.{sum_to}
 use Rattle.sdf.specs.Skip.{fewest}
 use Rattle.sdf.proofs.Numbers.{lt_or_ge, sub_mul}
-use Rattle.sdf.proofs.Sum.{sum_ext, sum_mono, sum_mono_add, sum_scale, term_le_sum}
+use Rattle.sdf.proofs.Sum.{sum_mono, sum_mono_add, sum_scale, term_le_sum}
+use Rattle.edf.specs.Bounds.{AllBounded}
 use Rattle.edf.specs.Demand.{Work, Works, cost, blocks, demand, iteration, load, Within}
 use Rattle.edf.proofs.Blocks.{due_frame, due_reaches}
 use Rattle.edf.proofs.Demand.{WithinBelow, cost_mono, cost_more}
-use Rattle.demand.specs.Lent.{work_at, works_of, Lent, Weighed}
-use Rattle.late.specs.Search.{share, Shares, Carries, graph_surplus, End, SearchEnd, SearchAnswer}
-use Rattle.late.specs.Answers.{LateAnswer}
-use Rattle.late.specs.declared.Lateness.{Lateness}
-use Rattle.late.specs.declared.Lateness.TheVariants.{At, Never}
+use Rattle.late.specs.Search.{Carries, graph_surplus, End, SearchEnd}
 use Rattle.demand.proofs.Sums.{Added, added}
 
 -- K blocks cost at most K whole iterations.
@@ -32,7 +27,7 @@ cost_under w K = rw (← sum_scale K) (sum_mono _ _ w.actors (λ v l.
 
 -- Over all graphs, the share in the frame load × (T − D), or 0 where that is negative.
 abbrev pub slack : Works → ℕ → ℕ
-slack ws F = sum_to (λ i. F / (ws.work i).period * iteration (ws.work i) * ((ws.work i).period - (ws.work i).deadline)) ws.graphs
+slack ws F = sum_to (graph_surplus ws F) ws.graphs
 
 -- One graph's demand, scaled by the frame, is at most its share × length and its part of the slack.
 share_bound : (w : Work) (f t : ℕ) → 0 < w.period
@@ -48,14 +43,10 @@ cost_none : (w : Work) → iteration w ≡ 0 → (K : ℕ) → cost w K ≡ 0
 cost_none w z K = omega (arith, cost_under w K, ap (λ (x : ℕ). K * x) z)
 
 -- The frame of the search is within the bound of ticks.
-pub span_high : {n G F : ℕ} {p w : ℕ → ℕ} → Carries n p w G F → 0 < G → G ≤ max_ticks → F ≤ max_ticks
+pub span_high : {ws : Works} {G F : ℕ} → Carries ws G F → 0 < G → G ≤ max_ticks → F ≤ max_ticks
 span_high m z h = le_trans (le_of_dvd z m.divides) h
 
--- The frame of the search carries the graphs of a sheet.
-abbrev pub CarriesAll : Works → ℕ → ℕ → Type 0
-CarriesAll ws = Carries ws.graphs (λ i. (ws.work i).period) (λ i. iteration (ws.work i))
-
-module _ (ws : Works) {G F : ℕ} (m : CarriesAll ws G F) where
+module _ (ws : Works) {G F : ℕ} (m : Carries ws G F) where
   -- Its load is within it if that of the frame is.
   pub span_fits : 0 < G → load ws G ≤ G → load ws F ≤ F
   unfolding load
@@ -122,10 +113,6 @@ module _ (ws : Works) {G F : ℕ} (m : CarriesAll ws G F) where
         (λ more. ⊎_elim (below t) (within_from more t) (lt_or_ge t e))
         h.enough
 
--- With a surplus below the frame no length needs a look.
-pub end_none : {F load L : ℕ} → L < F → End F load L 0
-end_none {F} {load} {L} h = record { high = omega arith; enough = inr (omega arith) }
-
 -- The frame itself is an end.
 pub end_frame : {F load L : ℕ} → End F load L F
 end_frame = record { high = le_refl _; enough = inl refl }
@@ -153,75 +140,38 @@ first_terms f (suc n) i l = ⊎_elim
     (λ h. omega (arith, first_terms f n i (le_of_suc-le-suc h)))
     (eq-or-lt_of_le l)
 
--- No surplus where the period is at most the deadline.
-pub surplus_none : (share : ℕ) {period deadline : ℕ} → period ≤ deadline → 0 ≡ share * (period - deadline)
-surplus_none share {period} {deadline} h = rw (sub-eq-zero_of_le h) (omega arith)
+-- What one graph adds to a load within the bound of ticks is within it too.
+pub share_high : (ws : Works) (F : ℕ) → load ws F ≤ max_ticks → (i : ℕ) → i < ws.graphs
+    → F / (ws.work i).period * iteration (ws.work i) ≤ max_ticks
+unfolding load
+share_high ws F h i l = le_trans (term_le_sum (λ k. F / (ws.work k).period * iteration (ws.work k)) ws.graphs i l) h
 
-module _ {F : ℕ} {heads weight : List ℕ} (g : Shares F heads weight) where
-  -- A graph's share is within the bound of ticks.
-  pub share_high : (i : ℕ) → i < length heads / 3 → share F heads weight i ≤ max_ticks
-  share_high i l = le_trans (term_le_sum (share F heads weight) (length heads / 3) i l) g.total
+spare_high : (ws : Works) → AllBounded ws → (i : ℕ) → i < ws.graphs → (ws.work i).period - (ws.work i).deadline ≤ max_ticks
+spare_high ws b i l = le_trans (sub-le _ _) (b.work i l).period_high
 
-  spare_high : (i : ℕ) → i < length heads / 3 → get_or heads (3 * i) 0 - get_or heads (3 * i + 1) 0 ≤ max_ticks
-  spare_high i l = le_trans (sub-le _ _) (g.period_high i l)
-
+module _ (ws : Works) (F : ℕ) (b : AllBounded ws) (h : load ws F ≤ max_ticks) where
   -- A graph's surplus fits.
-  pub surplus_fits : (i : ℕ) → i < length heads / 3 → graph_surplus F heads weight i < 2 ^ 64
-  surplus_fits i l = lt_of_le_of_lt (mul-le-mul (share_high i l) (spare_high i l)) (lit< tt)
+  pub surplus_fits : (i : ℕ) → i < ws.graphs → graph_surplus ws F i < 2 ^ 64
+  surplus_fits i l = lt_of_le_of_lt (mul-le-mul (share_high ws F h i l) (spare_high ws b i l)) (lit< tt)
 
-  surplus_high : (i : ℕ) → i ≤ length heads / 3 → sum_to (graph_surplus F heads weight) i ≤ max_ticks * max_ticks
-  surplus_high i l = le_trans
-      (sum_mono _ (λ j. max_ticks * share F heads weight j) i (λ j m. omega (arith, mul-le-mul_left (share F heads weight j) (spare_high j (omega arith)))))
-      (rw (sum_scale max_ticks (share F heads weight) i)
-      (mul-le-mul_left max_ticks (le_trans (first_terms (share F heads weight) (length heads / 3) i l) g.total)))
+  surplus_high : (i : ℕ) → i ≤ ws.graphs → sum_to (graph_surplus ws F) i ≤ max_ticks * max_ticks
+  unfolding load
+  surplus_high i l =
+      let share : ℕ → ℕ = λ k. F / (ws.work k).period * iteration (ws.work k) in
+      le_trans
+      (sum_mono _ (λ j. max_ticks * share j) i (λ j m. omega (arith, mul-le-mul_left (share j) (spare_high ws b j (omega arith)))))
+      (rw (sum_scale max_ticks share i) (mul-le-mul_left max_ticks (le_trans (first_terms share ws.graphs i l) h)))
 
   -- The surplus of a graph is added.
-  pub surplus_added : {i x y : ℕ} → i < length heads / 3 → x ≡ sum_to (graph_surplus F heads weight) i → y ≡ graph_surplus F heads weight i
-      → Added (graph_surplus F heads weight) x y i
-  surplus_added {i} l = added (graph_surplus F heads weight) (omega (arith, surplus_high (i + 1) (omega arith)))
+  pub surplus_added : {i x y : ℕ} → i < ws.graphs → x ≡ sum_to (graph_surplus ws F) i → y ≡ graph_surplus ws F i
+      → Added (graph_surplus ws F) x y i
+  surplus_added {i} l = added (graph_surplus ws F) (omega (arith, surplus_high (i + 1) (omega arith)))
 
-module _ (heads times q s : List ℕ) (room : ℕ) {weight : List ℕ} (g : Weighed (works_of heads times q s room) weight) where
-  -- The shares add up to the frame load, which is within the bound of ticks.
-  pub shares : {F L : ℕ} → Lent heads times q s room → F ≤ max_ticks → L ≡ load (works_of heads times q s room) F → L ≤ F → Shares F heads weight
-  unfolding load
-  shares {F} b f e l = record {
-    weights_there = g.weights_there;
-    period_low = λ i m. (b.bounded.work i m).period_low;
-    period_high = λ i m. (b.bounded.work i m).period_high;
-    total = omega (
-      arith,
-      sum_ext _ (λ i. F / get_or heads (3 * i) 0 * iteration (work_at heads times q s room i)) (length heads / 3)
-          (λ i m. ap (λ (x : ℕ). F / get_or heads (3 * i) 0 * x) (g.weight i m)),
-    );
-  }
-
-  surplus_slack : (F : ℕ) → sum_to (graph_surplus F heads weight) (length heads / 3) ≡ slack (works_of heads times q s room) F
-  surplus_slack F = sum_ext _ _ (length heads / 3)
-      (λ i l. ap (λ (x : ℕ). F / get_or heads (3 * i) 0 * x * (get_or heads (3 * i) 0 - get_or heads (3 * i + 1) 0)) (g.weight i l))
-
-  carries_all : {G F : ℕ} → Carries (length heads / 3) (λ i. get_or heads (3 * i) 0) (λ i. get_or weight i 0) G F
-      → CarriesAll (works_of heads times q s room) G F
-  carries_all m = record {
-    positive = m.positive;
-    divides = m.divides;
-    each = λ i l. ⊎_map (λ d. d) (λ (z : get_or weight i 0 ≡ 0). sym (g.weight i l) ∙ z) (m.each i l);
-  }
-
-  -- The load of the search's frame is within it.
-  pub span_load : {G L F M : ℕ} → Carries (length heads / 3) (λ i. get_or heads (3 * i) 0) (λ i. get_or weight i 0) G F
-      → 0 < G → L ≡ load (works_of heads times q s room) G → L ≤ G → M ≡ load (works_of heads times q s room) F → M ≤ F
-  span_load m p a l b = rw b (span_fits (works_of heads times q s room) (carries_all m) p (rw a at l))
+module _ (ws : Works) {G F : ℕ} (m : Carries ws G F) where
+  -- The load of the search's frame is within the bound of ticks, as that frame is.
+  pub span_load : {L M : ℕ} → 0 < G → L ≡ load ws G → L ≤ G → M ≡ load ws F → M ≤ F
+  span_load p a l b = rw b (span_fits ws m p (rw a at l))
 
   -- The end by that frame, its load and the surplus is one of the search.
-  pub search_ends : {G F L x e : ℕ} → Carries (length heads / 3) (λ i. get_or heads (3 * i) 0) (λ i. get_or weight i 0) G F → F ≤ max_ticks
-      → L ≡ load (works_of heads times q s room) F → L ≤ F → x ≡ sum_to (graph_surplus F heads weight) (length heads / 3) → End F L x e
-      → SearchEnd (works_of heads times q s room) e
-  search_ends {F = F} m h a l b k = record {
-    high = le_trans k.high h;
-    enough = end_enough (works_of heads times q s room) (carries_all m) (rw a at l) (rw (a, b ∙ surplus_slack F) at k);
-  }
-
--- What the search up to the end answers is the answer.
-pub end_answers : {ws : Works} {e : ℕ} → SearchEnd ws e → (r : Lateness) → SearchAnswer ws e r → LateAnswer ws r
-end_answers k (At t) w = w
-end_answers k Never w = k.enough w
+  pub search_ends : {M x e : ℕ} → F ≤ max_ticks → M ≡ load ws F → M ≤ F → x ≡ slack ws F → End F M x e → SearchEnd ws e
+  search_ends h a l b k = record { high = le_trans k.high h; enough = end_enough ws m (rw a at l) (rw (a, b) at k) }

@@ -1,11 +1,12 @@
 -- 01, answer 21: from which length on none is late, found without a look at every graph.
 use mathlib.Core.Path.{◌≡◌}
-use mathlib.Core.List.{List}
-use Prim.Native.Nat.{ℕ, ◌+◌, ◌*◌, ◌/◌, ◌^◌, ◌<◌, ◌≤◌}
+use Prim.Native.Nat.{ℕ, ◌*◌, ◌^◌, ◌<◌, ◌≤◌}
 use native.Mathlib.Nat.{le_refl, le_trans, lt_of_lt_of_le, lt_of_le_of_lt, mul_comm, mul-le-mul, mul-le-mul_right}
 use native.Mathlib.Omega.{arith}
+use mathlib.Core.List.{List}
 use lib.Dec.{lit<}
 use lib.ListN.{length, get_or}
+use Rattle.units.specs.declared.Ticks.{Ticks}
 use Rattle.units.specs.Bounds.{engine_actors, max_repetition, max_ticks, max_time}
 use Rattle.sdf.specs.Sum.{sum_to}
 use Rattle.sdf.proofs.Sum.{sum_bound, sum_mono}
@@ -15,12 +16,13 @@ use Rattle.edf.specs.Demand.{Works, blocks, demand, iteration}
 use Rattle.edf.proofs.Blocks.{due_at_most}
 use Rattle.edf.proofs.Demand.{demand_mono}
 use Rattle.edf.proofs.Fits.{iteration_at_most}
-use Rattle.demand.specs.Lent.{works_of, Weighed}
-use Rattle.demand.proofs.Costs.{Graphs, sheet, graph}
+use Rattle.demand.specs.declared.rows.Rows.{Rows}
+use Rattle.demand.specs.Lent.{no_ticks, Weighed}
+use Rattle.demand.specs.Rows.{works_in, work_in}
 use Rattle.demand.proofs.Sums.{Added, added}
-use Rattle.late.specs.Cycle.{Eased, floor_at}
+use Rattle.late.specs.Cycle.{Eased, long_works, floor_at}
 use Rattle.late.specs.Search.{Glanced, Leapt}
-use Rattle.late.specs.declared.cycle.Cycle as code
+use Rattle.late.specs.declared.cycle.Table.{Table}
 use Rattle.late.proofs.Ending.{cost_under}
 
 -- What graph i asks in length t as if nothing were skipped.
@@ -39,37 +41,28 @@ fits_whole_to {ws} g {t} {n} l k = lt_of_le_of_lt (le_trans (sum_bound (graph_wh
     each : ℕ
     each = max_ticks * (engine_actors * (max_time * max_repetition))
 
-module _ {heads times q s : List ℕ} {room t n i : ℕ} (g : Graphs heads times q s room t n i) where
-  -- The weight of graph i × its blocks due is added.
-  pub whole_added : i < n → {weight : List ℕ} → Weighed (sheet g) weight → {x y w k : ℕ} → x ≡ sum_to (graph_whole (sheet g) t) i
-      → w ≡ get_or weight i 0 → k ≡ due (get_or heads (3 * i) 0) (get_or heads (3 * i + 1) 0) t → y ≡ w * k
-      → Added (graph_whole (sheet g) t) x y i
-  whole_added m weighed {w = w} {k = k} e a b d = added (graph_whole (sheet g) t)
-      (fits_whole_to g.lent.bounded g.ticks (omega (arith, graph g m))) e
-      (rw (d, mul_comm w k, b, a, weighed.weight i (graph g m)))
+-- The weight of graph i × its blocks due is added.
+pub whole_added : (rows : Rows) {weight : List Ticks} → Weighed (works_in rows) weight → {t i x k : ℕ} → t ≤ max_ticks
+    → i < length rows.heads.now → x ≡ sum_to (graph_whole (works_in rows) t) i
+    → k ≡ due (work_in rows i).period (work_in rows i).deadline t
+    → Added (graph_whole (works_in rows) t) x ((get_or weight i no_ticks).n * k) i
+whole_added rows {weight} g {t} {i} {x} {k} h m e d = added (graph_whole (works_in rows) t) (fits_whole_to rows.lent.bounded h (omega arith)) e
+    (rw (mul_comm (get_or weight i no_ticks).n k, d, g.weight i m))
 
-  -- Demand is at most the sum over all graphs.
-  pub whole_above : {x : ℕ} → n ≤ i → x ≡ sum_to (graph_whole (sheet g) t) i → demand (sheet g) t ≤ x
-  unfolding demand blocks
-  whole_above m e = rw (e, end) (sum_mono _ _ (length heads / 3) (λ j l. cost_under ((sheet g).work j) (blocks ((sheet g).work j) t)))
-    where
-      end : i ≡ length heads / 3
-      end = omega (arith, g.all, g.low)
+-- Demand is at most the sum over all graphs.
+pub whole_above : (ws : Works) (t : ℕ) {x : ℕ} → x ≡ sum_to (graph_whole ws t) ws.graphs → demand ws t ≤ x
+unfolding demand blocks
+whole_above ws t e = rw e (sum_mono _ _ ws.graphs (λ j l. cost_under (ws.work j) (blocks (ws.work j) t)))
 
 -- With demand at t at most r, no length from r on to t is late.
 pub glanced : (ws : Works) {t r : ℕ} → demand ws t ≤ r → Glanced ws t r
 glanced ws {t} d _ u m n = omega (arith, demand_mono ws {t = u} {u = t} (omega arith))
 
 -- Nor is one from `from` on, where the other graphs ask at t no more than the table says.
-pub glanced_eased : {heads long times q s : List ℕ} {room : ℕ} {c : code.Cycle} {floors : List ℕ}
-    → Eased heads long times q s room c floors → {t from asks : ℕ} → asks ≡ demand (works_of long times q s room) t
-    → asks ≤ floor_at c floors from → Glanced (works_of heads times q s room) t from
-glanced_eased {long = long} {times} {q} {s} {room} e {t} {from} a h _ u m n =
-    omega (arith, e.leaves from u m, demand_mono (works_of long times q s room) {t = u} {u = t} (omega arith))
-
--- A glance that gives no more than the length is as good as a look.
-pub leapt_glanced : (ws : Works) {t r : ℕ} → r ≤ t → Glanced ws t r → Leapt ws t r
-leapt_glanced ws h g = (λ l. absurd (omega arith), g)
+pub glanced_eased : {rows : Rows} {k : Table} → Eased rows k → {t from asks : ℕ} → asks ≡ demand (long_works rows k) t
+    → asks ≤ floor_at k.cycle.n k.rest.n k.floors.now from → Glanced (works_in rows) t from
+glanced_eased {rows} {k} e {t} {from} a h _ u m n =
+    omega (arith, e.leaves from u m, demand_mono (long_works rows k) {t = u} {u = t} (omega arith))
 
 -- Demand is a look.
 pub leapt_demand : (ws : Works) {t r : ℕ} → r ≡ demand ws t → Leapt ws t r

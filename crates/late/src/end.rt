@@ -1,129 +1,83 @@
 // 01, answer 21: no length from the end on can be late.
-ghost use Rattle.std.specs.Prelude.{◌≡◌, ℕ, ◌*◌, ◌/◌, ◌<◌, ◌≤◌, min, max, length, get_or};
+ghost use Rattle.std.specs.Prelude.{◌≡◌, ◌<◌, ◌≤◌, length};
 ghost use Rattle.sdf.specs.Sum.{sum_to};
 ghost use Rattle.units.specs.Bounds.{max_ticks};
 ghost use Rattle.edf.specs.Demand.{load as load_of};
 ghost use Rattle.edf.specs.Frame.{CommonMultiple};
-ghost use Rattle.demand.specs.Lent.{works_of, Lent, Weighed};
-ghost use Rattle.late.specs.Search.{Shares, busy_period, Carries, graph_surplus, End, SearchEnd};
+ghost use Rattle.demand.specs.Lent.{Weighed};
+ghost use Rattle.demand.specs.Rows.{works_in, work_in};
+ghost use Rattle.late.specs.Search.{busy_period, Carries, graph_surplus, End, SearchEnd};
 
 use demand::frame::{common, frame_load};
-use units::{SomeTicks, Ticks};
-
-pub fn sooner(a: Ticks, b: Ticks) -> Ticks
-    ensures { result.n ≡ min a.n b.n }
-{
-    if a.count() < b.count() {
-        return a;
-    }
-    b
-}
-
-pub fn later(a: Ticks, b: Ticks) -> Ticks
-    ensures { result.n ≡ max a.n b.n }
-{
-    if a.count() < b.count() {
-        return b;
-    }
-    a
-}
+use demand::rows::Rows;
+use units::{Count, Ticks};
 
 // Whether some graph's iteration takes no time. Only the time of the search hangs on it.
-fn idle(weight: &[u64], n: usize) -> bool
+fn idle(weight: &[Ticks], n: usize) -> bool
     requires { n ≤ length weight.now }
 {
-    let mut i = 0;
-    while i < n {
-        if weight[i] == 0 {
-            return true;
-        }
-        i += 1;
-    }
-    false
+    weight[..n].iter().any(|w| w.count() == 0)
 }
 
 // The period of graph i, or 1 where its iteration takes no time.
-fn busy_period(heads: &[u64], weight: &[u64], i: usize) -> Ticks
-    requires { (i < length heads.now / 3) × (length heads.now / 3 ≤ length weight.now) }
-    ensures { result.n ≡ busy_period heads.now weight.now i }
+fn busy_period(rows: &Rows, weight: &[Ticks], i: usize) -> Ticks
+    requires { (i < length rows.now.heads.now) × Weighed (works_in rows.now) weight.now }
+    ensures { result.n ≡ busy_period (works_in rows.now) i }
 {
-    if weight[i] == 0 {
+    if weight[i].count() == 0 {
         return Ticks::of(1);
     }
-    Ticks::of(heads[3 * i])
+    rows.heads[i].period
 }
 
 // A graph whose iteration takes no time adds nothing to demand at any length, but its period may stretch the frame: the search
 // needs the frame of the others alone.
-fn busy(heads: &[u64], weight: &[u64], frame: Ticks) -> Ticks
-    requires { Shares frame.n heads.now weight.now × CommonMultiple (length heads.now / 3) (λ i. get_or heads.now (3 * i) 0) frame.n }
-    ensures { Carries (length heads.now / 3) (λ i. get_or heads.now (3 * i) 0) (λ i. get_or weight.now i 0) frame.n result.n }
+fn busy(rows: &Rows, weight: &[Ticks], frame: Ticks) -> Ticks
+    requires { Weighed (works_in rows.now) weight.now × CommonMultiple (length rows.now.heads.now) (λ i. (work_in rows.now i).period) frame.n }
+    ensures { Carries (works_in rows.now) frame.n result.n }
 {
-    let n = heads.len() / 3;
-    if !idle(weight, n) {
+    if !idle(weight, rows.graphs()) {
         return frame;
     }
     let mut so_far = Ticks::of(1);
-    let mut i = 0;
-    while i < n {
-        let next = common(so_far, busy_period(heads, weight, i));
-        match next {
-            SomeTicks::Outside => return frame,
-            SomeTicks::Within(m) => {
-                so_far = m;
-            }
-        }
-        i += 1;
+    for i in 0..rows.graphs() {
+        let Some(next) = common(so_far, busy_period(rows, weight, i)) else {
+            return frame;
+        };
+        so_far = next;
     }
     so_far
 }
 
 // The load of the frame of the search, which most often is the frame itself.
-fn busy_load(
-    heads: &[u64],
-    times: &[u64],
-    q: &[u64],
-    s: &[u64],
-    room: usize,
-    weight: &[u64],
-    frame: Ticks,
-    load: Ticks,
-    span: Ticks,
-) -> Ticks
-    requires { Lent heads.now times.now q.now s.now room × Weighed (works_of heads.now times.now q.now s.now room) weight.now × (span.n ≤ max_ticks) × (load.n ≡ load_of (works_of heads.now times.now q.now s.now room) frame.n) }
-    ensures { result.n ≡ load_of (works_of heads.now times.now q.now s.now room) span.n }
+fn busy_load(rows: &Rows, weight: &[Ticks], frame: Ticks, load: Ticks, span: Ticks) -> Ticks
+    requires { Weighed (works_in rows.now) weight.now × (span.n ≤ max_ticks) × (load.n ≡ load_of (works_in rows.now) frame.n) }
+    ensures { result.n ≡ load_of (works_in rows.now) span.n }
 {
-    if span.count() == frame.count() {
+    if span == frame {
         return load;
     }
-    frame_load(heads, times, q, s, room, weight, span)
+    frame_load(rows, weight, span)
 }
 
 // By how much frame × demand of graph i may be above its share × length.
-fn graph_surplus(heads: &[u64], weight: &[u64], frame: Ticks, i: usize) -> u64
-    requires { Shares frame.n heads.now weight.now × (i < length heads.now / 3) }
-    ensures { result ≡ graph_surplus frame.n heads.now weight.now i }
+fn graph_surplus(rows: &Rows, weight: &[Ticks], frame: Ticks, i: usize) -> u64
+    requires { (i < length rows.now.heads.now) × Weighed (works_in rows.now) weight.now × (load_of (works_in rows.now) frame.n ≤ max_ticks) }
+    ensures { result ≡ graph_surplus (works_in rows.now) frame.n i }
 {
-    let b = 3 * i;
-    let period = heads[b];
-    let deadline = heads[b + 1];
-    if period < deadline {
-        return 0;
-    }
-    frame.count() / period * weight[i] * (period - deadline)
+    let period = rows.heads[i].period.count();
+    let deadline = rows.heads[i].deadline.count();
+    frame.count() / period * weight[i].count() * period.saturating_sub(deadline)
 }
 
 // By how much frame × demand may be above load × length.
-fn surplus_of(heads: &[u64], weight: &[u64], frame: Ticks) -> u64
-    requires { Shares frame.n heads.now weight.now }
-    ensures { result ≡ sum_to (graph_surplus frame.n heads.now weight.now) (length heads.now / 3) }
+fn surplus_of(rows: &Rows, weight: &[Ticks], frame: Ticks) -> u64
+    requires { Weighed (works_in rows.now) weight.now × (load_of (works_in rows.now) frame.n ≤ max_ticks) }
+    ensures { result ≡ sum_to (graph_surplus (works_in rows.now) frame.n) (length rows.now.heads.now) }
 {
-    let n = heads.len() / 3;
     let mut sum = 0;
-    let mut i = 0;
-    while i < n {
-        sum += graph_surplus(heads, weight, frame, i);
-        i += 1;
+    for i in 0..rows.graphs() {
+        sum += graph_surplus(rows, weight, frame, i);
     }
     sum
 }
@@ -141,25 +95,15 @@ fn end_of(frame: Ticks, load: Ticks, surplus: u64) -> Ticks
     if l == f {
         return frame;
     }
-    sooner(frame, Ticks::of((surplus - f) / (f - l) + 1))
+    Ticks::of(f.min((surplus - f) / (f - l) + 1))
 }
 
 // The same for the sheet, by the frame that the search needs.
-pub fn search_end(
-    heads: &[u64],
-    times: &[u64],
-    q: &[u64],
-    s: &[u64],
-    room: usize,
-    frame: Ticks,
-    load: Ticks,
-    weight: &[u64],
-) -> Ticks
-    requires lent { Lent heads.now times.now q.now s.now room × CommonMultiple (length heads.now / 3) (λ i. get_or heads.now (3 * i) 0) frame.n × (frame.n ≤ max_ticks) × (load.n ≡ load_of (works_of heads.now times.now q.now s.now room) frame.n) × (load.n ≤ frame.n) }
-    requires weighed { Weighed (works_of heads.now times.now q.now s.now room) weight.now }
-    ensures { SearchEnd (works_of heads.now times.now q.now s.now room) result.n }
+pub fn search_end(rows: &Rows, weight: &[Ticks], frame: Ticks, load: Ticks) -> Ticks
+    requires { Weighed (works_in rows.now) weight.now × CommonMultiple (length rows.now.heads.now) (λ i. (work_in rows.now i).period) frame.n × (frame.n ≤ max_ticks) × (load.n ≡ load_of (works_in rows.now) frame.n) × (load.n ≤ frame.n) }
+    ensures { SearchEnd (works_in rows.now) result.n }
 {
-    let span = busy(heads, weight, frame);
-    let share = busy_load(heads, times, q, s, room, weight, frame, load, span);
-    end_of(span, share, surplus_of(heads, weight, span))
+    let span = busy(rows, weight, frame);
+    let share = busy_load(rows, weight, frame, load, span);
+    end_of(span, share, surplus_of(rows, weight, span))
 }

@@ -2,7 +2,7 @@
 use Rattle.std.specs.Prelude.{◌≡◌, ◌↔◌, List, ℕ, ◌+◌, ◌*◌, ◌-◌, ◌^◌, ◌<◌, ◌≤◌, length, get_or}
 use Rattle.edf.specs.Arrivals.{due}
 use Rattle.edf.specs.Demand.{Work, Works, cost}
-use Rattle.piece.specs.declared.Piece as code
+use Rattle.piece.specs.declared as code
 
 -- From `low` to `high` blocks due a graph asks `each` for every block, less `behind`; that fits 64 bits.
 abbrev pub Piece : Work → (low high each behind : ℕ) → Type 0
@@ -25,26 +25,29 @@ abbrev pub Stairs : Work → (each bottom from asks : ℕ) → Type 0
 Stairs w each bottom from asks = (n f : ℕ) → 0 < n → f + n * w.period ≡ from → bottom ≤ f
     → (n * each ≤ asks) × Span w f (f + w.period) (asks - n * each)
 
--- Eight numbers for each graph are one of its pieces, one of its spans and how far down that can step; those that cover nothing
--- say nothing.
-pub record Pieces (ws : Works) (pieces : List ℕ) : Type 0 where
-  pub there : 8 * ws.graphs ≤ length pieces
-  pub piece : (i : ℕ) → i < ws.graphs → Piece (ws.work i) (get_or pieces (8 * i) 0) (get_or pieces (8 * i + 1) 0) (get_or pieces (8 * i + 2) 0) (get_or pieces (8 * i + 3) 0)
-  pub span : (i : ℕ) → i < ws.graphs → Span (ws.work i) (get_or pieces (8 * i + 4) 0) (get_or pieces (8 * i + 5) 0) (get_or pieces (8 * i + 6) 0)
-  pub down : (i : ℕ) → i < ws.graphs → Stairs (ws.work i) (get_or pieces (8 * i + 2) 0) (get_or pieces (8 * i + 7) 0) (get_or pieces (8 * i + 4) 0) (get_or pieces (8 * i + 6) 0)
+-- What is known of a graph where nothing is.
+abbrev pub unknown : code.Known.Known
+unknown = record { piece = record { low = 0; high = 0; each = 0; behind = 0 }; from = 0; to = 0; asks = 0; bottom = 0 }
+
+-- What is known of each graph is one of its pieces, one of its spans and how far down that can step; those that cover nothing say
+-- nothing.
+pub record Pieces (ws : Works) (pieces : List code.Known.Known) : Type 0 where
+  pub there : ws.graphs ≤ length pieces
+  pub piece : (i : ℕ) → i < ws.graphs → let p = (get_or pieces i unknown).piece in Piece (ws.work i) p.low p.high p.each p.behind
+  pub span : (i : ℕ) → i < ws.graphs → let k = get_or pieces i unknown in Span (ws.work i) k.from k.to k.asks
+  pub down : (i : ℕ) → i < ws.graphs → let k = get_or pieces i unknown in Stairs (ws.work i) k.piece.each k.bottom k.from k.asks
 
 -- A piece that covers k blocks due can take in one actor more: the numbers fit.
-pub record Joins (p : code.Piece) (time repetition skip k : ℕ) : Type 0 where
+pub record Joins (p : code.Piece.Piece) (time repetition skip k : ℕ) : Type 0 where
   pub from : p.low ≤ k
   pub to : k ≤ p.high
   pub repetition_low : 0 < repetition
   pub firings : k * repetition < 2 ^ 64
-  pub up : skip + repetition < 2 ^ 64
   pub each : p.each + time * repetition < 2 ^ 64
   pub behind : p.behind + time * skip < 2 ^ 64
 
 -- The piece p and one actor more: r covers k too, is no wider, and has at each of its counts more what the actor asks.
-pub record Joined (p : code.Piece) (time repetition skip k : ℕ) (r : code.Piece) : Type 0 where
+pub record Joined (p : code.Piece.Piece) (time repetition skip k : ℕ) (r : code.Piece.Piece) : Type 0 where
   pub low : p.low ≤ r.low
   pub high : r.high ≤ p.high
   pub from : r.low ≤ k

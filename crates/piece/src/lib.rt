@@ -6,67 +6,72 @@ ghost use Rattle.std.specs.Prelude.{◌≡◌, ◌≢◌, true, ◌+◌, ◌*◌
 ghost use lib.ListN.{length, get_or};
 ghost use Rattle.units.specs.Bounds.{max_ticks};
 ghost use Rattle.edf.specs.Arrivals.{due};
-ghost use Rattle.edf.specs.Demand.{cost, demand};
-ghost use Rattle.demand.specs.Lent.{work_at, works_of, Lent};
-ghost use Rattle.piece.specs.Pieces.{Piece as Straight, Level, First, Pieces, Joins, Joined};
+ghost use Rattle.edf.specs.Demand.{Works, cost, demand};
+ghost use Rattle.demand.specs.Rows.{work_in, works_in};
+ghost use Rattle.piece.specs.Pieces.{Piece as Straight, unknown, Level, First, Pieces, Joins, Joined};
 
-use demand::length::{actors, graph_blocks};
-use units::Ticks;
+use demand::rows::{Actor, Rows};
+use units::{Count, Ticks};
 
 // From `low` to `high` blocks due a graph asks `each` ticks for every block, less `behind`.
 #[derive(Clone, Copy)]
-struct Piece {
-    low: u64,
-    high: u64,
-    each: u64,
-    behind: u64,
+pub struct Piece {
+    pub low: u64,
+    pub high: u64,
+    pub each: u64,
+    pub behind: u64,
 }
 
-fn lesser(a: u64, b: u64) -> u64
-    ensures { result ≡ min a b }
-{
-    if a < b {
-        return a;
-    }
-    b
+// What is known of a graph: a piece; in the lengths from `from` on and below `to` it asks `asks`; and down to the length `bottom` it
+// can step a period at a time on the piece.
+#[derive(Clone, Copy)]
+pub struct Known {
+    pub piece: Piece,
+    pub from: u64,
+    pub to: u64,
+    pub asks: u64,
+    pub bottom: u64,
 }
 
-fn greater(a: u64, b: u64) -> u64
-    ensures { result ≡ max a b }
-{
-    if a < b {
-        return b;
-    }
-    a
+impl Known {
+    // A piece that covers no count, a span without a length, and no step down.
+    pub const NOTHING: Known = Known {
+        piece: Piece {
+            low: 1,
+            high: 0,
+            each: 0,
+            behind: 0,
+        },
+        from: 1,
+        to: 0,
+        asks: 0,
+        bottom: 2,
+    };
 }
 
 // The piece that covers k blocks due, with one actor more.
-fn joined(p: Piece, time: u64, repetition: u64, skip: u64, k: u64) -> Piece
-    requires { Joins p time repetition skip k }
-    ensures { Joined p time repetition skip k result }
+fn joined(p: Piece, actor: Actor, k: u64) -> Piece
+    requires { Joins p actor.time.n actor.repetition.n actor.skip.n k }
+    ensures { Joined p actor.time.n actor.repetition.n actor.skip.n k result }
 {
+    let time = actor.time.count();
+    let repetition = actor.repetition.count();
+    let skip = actor.skip.count();
     if time == 0 {
         return p;
     }
     if k * repetition < skip {
         return Piece {
-            low: p.low,
-            high: lesser(p.high, skip / repetition),
-            each: p.each,
-            behind: p.behind,
+            high: p.high.min(skip / repetition),
+            ..p
         };
     }
     let each = p.each + time * repetition;
     if skip == 0 {
-        return Piece {
-            low: p.low,
-            high: p.high,
-            each,
-            behind: p.behind,
-        };
+        return Piece { each, ..p };
     }
     Piece {
-        low: greater(p.low, (skip + (repetition - 1)) / repetition),
+        low: p.low.max(skip.div_ceil(repetition)),
         high: p.high,
         each,
         behind: p.behind + time * skip,
@@ -74,62 +79,37 @@ fn joined(p: Piece, time: u64, repetition: u64, skip: u64, k: u64) -> Piece
 }
 
 // The piece of graph i that covers k blocks due.
-fn straight(
-    heads: &[u64],
-    times: &[u64],
-    q: &[u64],
-    s: &[u64],
-    room: usize,
-    i: usize,
-    k: u64,
-) -> Piece
-    requires { Lent heads.now times.now q.now s.now room × (i < length heads.now / 3) × (k ≤ max_ticks) }
-    ensures { (result.low ≤ k) × (k ≤ result.high) × Straight (work_at heads.now times.now q.now s.now room i) result.low result.high result.each result.behind }
+fn straight(rows: &Rows, i: usize, k: u64) -> Piece
+    requires { (i < length rows.now.heads.now) × (k ≤ max_ticks) }
+    ensures { (result.low ≤ k) × (k ≤ result.high) × Straight (work_in rows.now i) result.low result.high result.each result.behind }
 {
-    let end = actors(heads, i);
-    let first = room * i;
     let mut p = Piece {
         low: 0,
         high: Ticks::MAX,
         each: 0,
         behind: 0,
     };
-    let mut v = 0;
-    while v < end {
-        let at = first + v;
-        p = joined(p, times[at], q[at], s[at], k);
-        v += 1;
+    for &actor in rows.actors_of(i) {
+        p = joined(p, actor, k);
     }
     p
 }
 
 // The piece of graph i that covers k blocks due is there afterwards.
-fn meet(
-    heads: &[u64],
-    times: &[u64],
-    q: &[u64],
-    s: &[u64],
-    room: usize,
-    i: usize,
-    k: u64,
-    pieces: &mut [u64],
-)
-    requires { Lent heads.now times.now q.now s.now room × (i < length heads.now / 3) × (k ≤ max_ticks) × Pieces (works_of heads.now times.now q.now s.now room) pieces.old }
-    ensures { Pieces (works_of heads.now times.now q.now s.now room) pieces.new × (get_or pieces.new (8 * i) 0 ≤ k) × (k ≤ get_or pieces.new (8 * i + 1) 0) }
+fn meet(rows: &Rows, i: usize, k: u64, pieces: &mut [Known])
+    requires { (i < length rows.now.heads.now) × (k ≤ max_ticks) × Pieces (works_in rows.now) pieces.old }
+    ensures { Pieces (works_in rows.now) pieces.new × ((get_or pieces.new i unknown).piece.low ≤ k) × (k ≤ (get_or pieces.new i unknown).piece.high) }
 {
-    let b = 8 * i;
-    if pieces[b] <= k {
-        if k <= pieces[b + 1] {
-            return;
-        }
+    let known = pieces[i];
+    if known.piece.low <= k && k <= known.piece.high {
+        return;
     }
-    let p = straight(heads, times, q, s, room, i, k);
-    pieces[b] = p.low;
-    pieces[b + 1] = p.high;
-    pieces[b + 2] = p.each;
-    pieces[b + 3] = p.behind;
     // The span is one of the piece before: no step leads down from it.
-    pieces[b + 7] = pieces[b + 4];
+    pieces[i] = Known {
+        piece: straight(rows, i, k),
+        bottom: known.from,
+        ..known
+    };
 }
 
 // The smallest length in which k blocks are due.
@@ -145,166 +125,97 @@ fn first_length(period: u64, deadline: u64, k: u64) -> u64
 
 // Graph i asks the same from `low` to `high` blocks due: the span of lengths that have so many is there afterwards,
 // with the length down to which it can step.
-fn hold(
-    heads: &[u64],
-    times: &[u64],
-    q: &[u64],
-    s: &[u64],
-    room: usize,
-    i: usize,
-    low: u64,
-    high: u64,
-    asks: u64,
-    pieces: &mut [u64],
-)
-    requires { Lent heads.now times.now q.now s.now room × (i < length heads.now / 3) × (low ≤ high) × (high ≤ max_ticks) × (get_or pieces.old (8 * i) 0 ≤ low) × (low ≤ get_or pieces.old (8 * i + 1) 0) × Level (work_at heads.now times.now q.now s.now room i) low high asks × Pieces (works_of heads.now times.now q.now s.now room) pieces.old }
-    ensures { Pieces (works_of heads.now times.now q.now s.now room) pieces.new }
+fn hold(rows: &Rows, i: usize, low: u64, high: u64, asks: u64, pieces: &mut [Known])
+    requires { (i < length rows.now.heads.now) × (low ≤ high) × (high ≤ max_ticks) × ((get_or pieces.old i unknown).piece.low ≤ low) × (low ≤ (get_or pieces.old i unknown).piece.high) × Level (work_in rows.now i) low high asks × Pieces (works_in rows.now) pieces.old }
+    ensures { Pieces (works_in rows.now) pieces.new }
 {
-    let h = 3 * i;
-    let period = heads[h];
-    let deadline = heads[h + 1];
-    let from = first_length(period, deadline, low);
-    let to = first_length(period, deadline, high + 1);
-    let b = 8 * i;
+    let period = rows.heads[i].period.count();
+    let deadline = rows.heads[i].deadline.count();
+    let piece = pieces[i].piece;
     // Steps end at the piece's fewest blocks, and at one block: the lengths with none are no whole period.
-    let bottom = first_length(period, deadline, greater(pieces[b], 1));
-    pieces[b + 4] = from;
-    pieces[b + 5] = to;
-    pieces[b + 6] = asks;
-    pieces[b + 7] = bottom;
+    pieces[i] = Known {
+        piece,
+        from: first_length(period, deadline, low),
+        to: first_length(period, deadline, high + 1),
+        asks,
+        bottom: first_length(period, deadline, piece.low.max(1)),
+    };
 }
 
 // What graph i asks in a length; a span with that length is there afterwards.
-fn renew(
-    heads: &[u64],
-    times: &[u64],
-    q: &[u64],
-    s: &[u64],
-    room: usize,
-    i: usize,
-    length: Ticks,
-    pieces: &mut [u64],
-) -> Ticks
-    requires { Lent heads.now times.now q.now s.now room × (i < lib.ListN.length heads.now / 3) × (length.n ≤ max_ticks) × Pieces (works_of heads.now times.now q.now s.now room) pieces.old }
-    ensures { (result.n ≡ cost (work_at heads.now times.now q.now s.now room i) (due (get_or heads.now (3 * i) 0) (get_or heads.now (3 * i + 1) 0) length.n)) × Pieces (works_of heads.now times.now q.now s.now room) pieces.new }
+fn renew(rows: &Rows, i: usize, length: Ticks, pieces: &mut [Known]) -> Ticks
+    requires { (i < lib.ListN.length rows.now.heads.now) × (length.n ≤ max_ticks) × Pieces (works_in rows.now) pieces.old }
+    ensures { (result.n ≡ cost (work_in rows.now i) (due (work_in rows.now i).period (work_in rows.now i).deadline length.n)) × Pieces (works_in rows.now) pieces.new }
 {
-    let k = graph_blocks(heads, i, length).count();
-    meet(heads, times, q, s, room, i, k, pieces);
-    let b = 8 * i;
-    let each = pieces[b + 2];
-    let asks = k * each - pieces[b + 3];
+    let k = rows.blocks(i, length).count();
+    meet(rows, i, k, pieces);
+    let piece = pieces[i].piece;
+    let asks = k * piece.each - piece.behind;
     // Where it asks nothing for each block, it asks the same on the whole piece.
-    if each == 0 {
-        let low = pieces[b];
-        let high = lesser(pieces[b + 1], Ticks::MAX);
-        hold(heads, times, q, s, room, i, low, high, asks, pieces);
-        return Ticks::of(asks);
+    if piece.each == 0 {
+        hold(rows, i, piece.low, piece.high.min(Ticks::MAX), asks, pieces);
+    } else {
+        hold(rows, i, k, k, asks, pieces);
     }
-    hold(heads, times, q, s, room, i, k, k, asks, pieces);
     Ticks::of(asks)
 }
 
 // Whether the length t is one of the period below the span of graph i, on the same piece; the span is that period then.
-fn step_down(
-    heads: &[u64],
-    times: &[u64],
-    q: &[u64],
-    s: &[u64],
-    room: usize,
-    i: usize,
-    t: u64,
-    pieces: &mut [u64],
-) -> bool
-    requires { (i < length heads.now / 3) × Pieces (works_of heads.now times.now q.now s.now room) pieces.old }
-    ensures { Pieces (works_of heads.now times.now q.now s.now room) pieces.new × (result ≡ true → (get_or pieces.new (8 * i + 4) 0 ≤ t) × (t < get_or pieces.new (8 * i + 5) 0)) }
+fn step_down(rows: &Rows, i: usize, t: u64, pieces: &mut [Known]) -> bool
+    requires { (i < length rows.now.heads.now) × Pieces (works_in rows.now) pieces.old }
+    ensures { Pieces (works_in rows.now) pieces.new × (result ≡ true → ((get_or pieces.new i unknown).from ≤ t) × (t < (get_or pieces.new i unknown).to)) }
 {
-    let b = 8 * i;
-    let to = pieces[b + 4];
-    let period = heads[3 * i];
-    if to <= t {
-        return false;
-    }
-    if to < period {
+    let known = pieces[i];
+    let to = known.from;
+    let period = rows.heads[i].period.count();
+    if to <= t || to < period {
         return false;
     }
     let from = to - period;
-    if t < from {
+    if t < from || from < known.bottom {
         return false;
     }
-    if from < pieces[b + 7] {
-        return false;
-    }
-    let asks = pieces[b + 6] - pieces[b + 2];
-    pieces[b + 4] = from;
-    pieces[b + 5] = to;
-    pieces[b + 6] = asks;
+    pieces[i] = Known {
+        from,
+        to,
+        asks: known.asks - known.piece.each,
+        ..known
+    };
     true
 }
 
 // What graph i asks in a length.
-fn graph_look(
-    heads: &[u64],
-    times: &[u64],
-    q: &[u64],
-    s: &[u64],
-    room: usize,
-    i: usize,
-    length: Ticks,
-    pieces: &mut [u64],
-) -> Ticks
-    requires { Lent heads.now times.now q.now s.now room × (i < lib.ListN.length heads.now / 3) × (length.n ≤ max_ticks) × Pieces (works_of heads.now times.now q.now s.now room) pieces.old }
-    ensures { (result.n ≡ cost (work_at heads.now times.now q.now s.now room i) (due (get_or heads.now (3 * i) 0) (get_or heads.now (3 * i + 1) 0) length.n)) × Pieces (works_of heads.now times.now q.now s.now room) pieces.new }
+fn graph_look(rows: &Rows, i: usize, length: Ticks, pieces: &mut [Known]) -> Ticks
+    requires { (i < lib.ListN.length rows.now.heads.now) × (length.n ≤ max_ticks) × Pieces (works_in rows.now) pieces.old }
+    ensures { (result.n ≡ cost (work_in rows.now i) (due (work_in rows.now i).period (work_in rows.now i).deadline length.n)) × Pieces (works_in rows.now) pieces.new }
 {
-    let b = 8 * i;
     let t = length.count();
-    if pieces[b + 4] <= t {
-        if t < pieces[b + 5] {
-            return Ticks::of(pieces[b + 6]);
-        }
+    let known = pieces[i];
+    if known.from <= t && t < known.to {
+        return Ticks::of(known.asks);
     }
-    if step_down(heads, times, q, s, room, i, t, pieces) {
-        return Ticks::of(pieces[b + 6]);
+    if step_down(rows, i, t, pieces) {
+        return Ticks::of(pieces[i].asks);
     }
-    renew(heads, times, q, s, room, i, length, pieces)
+    renew(rows, i, length, pieces)
 }
 
-// No piece is known yet: each covers no count, no span a length, and no step leads down.
-pub fn blank(heads: &[u64], times: &[u64], q: &[u64], s: &[u64], room: usize, pieces: &mut [u64])
-    requires { 8 * (length heads.now / 3) ≤ length pieces.old }
-    ensures { Pieces (works_of heads.now times.now q.now s.now room) pieces.new }
+// Nothing is known yet of n graphs.
+pub fn blank(n: usize, pieces: &mut [Known])
+    requires { n ≤ length pieces.old }
+    ensures { (ws : Works) → ws.graphs ≡ n → Pieces ws pieces.new }
 {
-    let n = heads.len() / 3;
-    let mut i = 0;
-    while i < n {
-        let b = 8 * i;
-        pieces[b] = 1;
-        pieces[b + 1] = 0;
-        pieces[b + 4] = 1;
-        pieces[b + 5] = 0;
-        pieces[b + 7] = 2;
-        i += 1;
-    }
+    pieces[..n].fill(Known::NOTHING);
 }
 
 // Demand at a length; the pieces that it needs are there afterwards.
-pub fn look(
-    heads: &[u64],
-    times: &[u64],
-    q: &[u64],
-    s: &[u64],
-    room: usize,
-    length: Ticks,
-    pieces: &mut [u64],
-) -> Ticks
-    requires { Lent heads.now times.now q.now s.now room × (length.n ≤ max_ticks) × Pieces (works_of heads.now times.now q.now s.now room) pieces.old }
-    ensures { (result.n ≡ demand (works_of heads.now times.now q.now s.now room) length.n) × Pieces (works_of heads.now times.now q.now s.now room) pieces.new }
+pub fn look(rows: &Rows, length: Ticks, pieces: &mut [Known]) -> Ticks
+    requires { (length.n ≤ max_ticks) × Pieces (works_in rows.now) pieces.old }
+    ensures { (result.n ≡ demand (works_in rows.now) length.n) × Pieces (works_in rows.now) pieces.new }
 {
-    let n = heads.len() / 3;
     let mut sum = Ticks::of(0);
-    let mut i = 0;
-    while i < n {
-        sum = sum.plus(graph_look(heads, times, q, s, room, i, length, pieces));
-        i += 1;
+    for i in 0..rows.graphs() {
+        sum = sum.plus(graph_look(rows, i, length, pieces));
     }
     sum
 }

@@ -2,5 +2,5 @@ pub mod Sound
 pub mod Agree
 pub mod Same
 pub mod Says
-pub mod Readying
 pub mod Places
+pub mod Readying

@@ -6,6 +6,8 @@ use Prim.Native.Nat.{ℕ, ◌+◌, ◌-◌, ◌*◌, ◌<◌, ◌≤◌}
 use native.Mathlib.Omega.{arith}
 use lib.ListN.{length, take, drop}
 use lib.Seq.{length-take-le, get_or-take}
+use Rattle.std.specs.Prelude.{Result, Ok, Err}
+use Rattle.std.specs.Result.{MatchResult, IsErrAnd}
 use Rattle.units.specs.Bounds.{max_repetition}
 use Rattle.sdf.specs.Graph.{Graph, Sound}
 use Rattle.sdf.specs.Balance.{Balances}
@@ -13,10 +15,11 @@ use Rattle.sdf.specs.Skip.{Skips}
 use Rattle.trial.specs.Flat.{vector}
 use Rattle.repeat.specs.Repetition.{Repeats}
 use Rattle.graph.specs.Judged as engine
-use Rattle.graph.specs.declared.GraphAnswer.{GraphAnswer}
-use Rattle.graph.specs.declared.GraphAnswer.TheVariants.{Fine, Reach, Balance, NotOnce, Deadlock, Restless}
+use Rattle.graph.specs.declared.Fault.{Fault}
+use Rattle.graph.specs.declared.Fault.TheVariants.{Reach, Balance, NotOnce, Deadlock, Restless}
 use Rattle.sheet.specs.declared.Refusal.{Refusal}
 use Rattle.sheet.specs.declared.Refusal.TheVariants.{Range}
+use Rattle.sheet.specs.Answer.{Answer}
 use Rattle.sheet.specs.Layout.{in_numbers}
 use Rattle.sheet.specs.Fields.{in_range}
 use Rattle.sheet.specs.Check.{actor_count, channel_count, sized, stretch}
@@ -92,10 +95,24 @@ module _ (g : Graph) (sound : Sound g) (x : List ℕ) (room : g.actors ≤ lengt
 balances : (g : Graph) (x : List ℕ) → Repeats g x → Balances g max_repetition
 balances g x r = (vector x, r.repetition.balanced, r.bound)
 
+-- What the engine answers, with the place of its graph.
+abbrev pub answer_of : Result (Unit {0}) Fault → ℕ → Answer
+answer_of (Ok _) k = Ok tt
+answer_of (Err fault) k = Err (refusal_of fault k)
+
+-- So does an answer whose refusal a closure gives that place.
+pub placed :
+    (found : Result (Unit {0}) Fault) (answer : Answer) {P : Fault → Refusal → Type 0} (k : ℕ) →
+    MatchResult found (λ x. answer ≡ Ok x) (λ f. IsErrAnd answer (P f)) → ((f : Fault) (r : Refusal) → P f r → r ≡ refusal_of f k) →
+    answer ≡ answer_of found k
+placed (Ok x) answer k m h = m
+placed (Err f) (Err r) k m h = rw (h f r m)
+placed (Err f) (Ok x) k m h = absurd m
+
 -- Answers 7 to 11 for a graph in range.
 pub says :
     (k : ℕ) (l q s : List ℕ) → sized l ≡ true → stretch in_numbers l ≤ length l → 32 ≤ length q → 32 ≤ length s →
-    in_range (layout_of l) l ≡ true → (found : GraphAnswer) → engine.Judged (drawn l) found q s → Says k l (refusal_of found k) q s
+    in_range (layout_of l) l ≡ true → (found : Result (Unit {0}) Fault) → engine.Judged (drawn l) found q s → Says k l (answer_of found k) q s
 unfolding graph_lines
 says k l q s counts whole q_room s-room range found j = answered found j
   where
@@ -117,18 +134,18 @@ says k l q s counts whole q_room s-room range found j = answered found j
     numbers : Repeats (drawn l) q → RepetitionNumbers (drawn l) (take (actor_count l) q)
     numbers = first_repetition (drawn l) sound q inside_q
 
-    answered : (found : GraphAnswer) → engine.Judged (drawn l) found q s → Says k l (refusal_of found k) q s
-    answered Reach n = meet range (fail n refl)
-    answered Balance (reached, n) = meet range (meet reached (fail n refl))
-    answered NotOnce (reached, r, n) =
+    answered : (found : Result (Unit {0}) Fault) → engine.Judged (drawn l) found q s → Says k l (answer_of found k) q s
+    answered (Err Reach) n = meet range (fail n refl)
+    answered (Err Balance) (reached, n) = meet range (meet reached (fail n refl))
+    answered (Err NotOnce) (reached, r, n) =
         meet range (meet reached (meet (balances (drawn l) q r) (given _ (numbers r) (fail (λ o. n (once_agrees (drawn l) sound back o)) refl))))
-    answered Deadlock (reached, r, once, n) =
+    answered (Err Deadlock) (reached, r, once, n) =
         meet range (meet reached (meet (balances (drawn l) q r) (given _ (numbers r)
         (meet (once_agrees (drawn l) sound same_q once) (fail (λ o. n (lives_agrees (drawn l) sound back o)) refl)))))
-    answered Restless (reached, r, once, lives, n) =
+    answered (Err Restless) (reached, r, once, lives, n) =
         meet range (meet reached (meet (balances (drawn l) q r) (given _ (numbers r)
         (meet (once_agrees (drawn l) sound same_q once) (meet (lives_agrees (drawn l) sound same_q lives) (fail n refl))))))
-    answered Fine (reached, r, once, lives, rest, skips) = record {
+    answered (Ok _) (reached, r, once, lives, rest, skips) = record {
       range = range;
       reached = reached;
       balances = balances (drawn l) q r;

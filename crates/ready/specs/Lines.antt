@@ -1,16 +1,15 @@
 -- 01, The answer table, answers 1 to 12 in their order. Each line's condition is what document 01 says of the graph, not how it is
 -- tested.
-use Rattle.std.specs.Prelude.{◌≡◌, true, List, [], ◌∷◌, ◌++◌, ℕ, zero, suc, ◌≤◌, get_or, drop}
+use Rattle.std.specs.Prelude.{◌≡◌, true, List, [], ◌∷◌, ◌++◌, ℕ, zero, suc, ◌≤◌, Ok, Err, get_or, drop}
 use Rattle.units.specs.Bounds.{max_repetition, max_ticks}
 use Rattle.sdf.specs.Graph.{Reached}
 use Rattle.sdf.specs.Order.{Lives, AtRest}
 use Rattle.sdf.specs.Balance.{Balances, Once}
 use Rattle.edf.specs.Frame as frame
 use Rattle.trial.specs.Flat.{vector}
-use Rattle.sheet.specs.declared.Answer.{Answer}
-use Rattle.sheet.specs.declared.Answer.TheVariants.{On, No}
 use Rattle.sheet.specs.declared.Refusal.{Refusal}
 use Rattle.sheet.specs.declared.Refusal.TheVariants.{Range, Reach, Balance, NotOnce, Deadlock, Restless, Frame}
+use Rattle.sheet.specs.Answer.{Answer}
 use Rattle.sheet.specs.Layout.{in_numbers}
 use Rattle.sheet.specs.Fields.{in_range}
 use Rattle.sheet.specs.Check.{stretch, check_sheet, check_list}
@@ -33,8 +32,8 @@ pub data With (X : List ℕ → Type 0) (below : List ℕ → Outcome → Type 0
 
 -- Answers 1 to 5, which are found by looking, and the lines below.
 abbrev pub Checked : Answer → (Outcome → Type 0) → Outcome → Type 0
-Checked On below o = below o
-Checked (No r) below o = o ≡ refused r
+Checked (Ok _) below o = below o
+Checked (Err r) below o = o ≡ refused r
 
 -- Answers 6 to 11 for the graph numbered k at the start of l.
 unfoldable pub graph_lines : ℕ → List ℕ → (Judged → Outcome → Type 0) → Outcome → Type 0

@@ -4,7 +4,7 @@ use mathlib.Core.Bool.{Bool, true, cond}
 use mathlib.Core.Logic.{◌⊎◌, inl, inr, ⊎_elim}
 use mathlib.Core.List.{List}
 use Prim.Native.Nat.{ℕ, ◌+◌, ◌*◌, ◌/◌, ◌<◌, ◌≤◌, max}
-use native.Mathlib.Nat.{mul-le-mul, mul-le-mul_left, add-mul-div_left, div-eq_of_lt, add_comm}
+use native.Mathlib.Nat.{mul-le-mul_left, add-mul-div_left, div-eq_of_lt, add_comm}
 use native.Mathlib.Omega.{arith}
 use lib.Dec.{ltb}
 use lib.ListN.{length, get_or, set}
@@ -16,7 +16,7 @@ use Rattle.sets.proofs.Bits.{has_none}
 use Rattle.sets.proofs.Gather.{put_comes, marked_word, gather_start, gather_word, gather_word_other, gather_single}
 use Rattle.trial.specs.Flat.{Drawn}
 use Rattle.trial.specs.Read.{Read}
-use Rattle.repeat.specs.Words.{tied, keeps, Words, KeptBack}
+use Rattle.repeat.specs.Words.{tied, keeps}
 
 -- Channel c is one of the first n and leads from t to h.
 abbrev pub Before : Graph → ℕ → ℕ → ℕ → ℕ → Type 0
@@ -59,10 +59,6 @@ place_one n t h t' h' l l' e =
 -- The place of a pair of two below n is below n × n.
 pub place_below : (n t h : ℕ) → t < n → h < n → n * t + h < n * n
 place_below n t h l b = let m : t + 1 ≤ n = omega arith in omega (arith, mul-le-mul_left n m)
-
--- And small, where n is.
-pub place_small : (n t h : ℕ) → n ≤ 64 → t < n → h < n → n * t + h < 4096
-place_small n t h m l b = omega (arith, place_below n t h l b, mul-le-mul m m)
 
 -- Before the first channel: the words are clear.
 pub drawing_start : (g : Graph) (words between : List ℕ) → ((i : ℕ) → i < 3 * g.actors → get_or words i 0 ≡ 0) → Drawing g 0 0 words between
@@ -140,9 +136,3 @@ pub drawing_turn : {g : Graph} {n back back' : ℕ} {e : Channel} {words words' 
     → Drawing g n back words between → Draws g n e back back' words words' between between' → Drawing g (n + 1) back' words' between'
 drawing_turn {g} {n} {back} {back'} {e} {words} {words'} {between} {between'} drawn l room r d s =
     draws drawn l room d (subst (λ (x : Channel). Draws g n x back back' words words' between between') (sym r.is) s)
-
--- After the last channel.
-pub drawing_end : {g : Graph} {n back : ℕ} {words between : List ℕ} → n ≡ g.channels → length words ≡ 3 * g.actors → Drawing g n back words between → Words g words between × KeptBack g back
-drawing_end {g} {n} {back} {words} {between} e room d =
-    let f : Drawing g g.channels back words between = subst (λ (m : ℕ). Drawing g m back words between) e d in
-    (record { room = room; heads = f.heads; tails = f.tails; tied = f.tied; joins = f.joins }, f.kept)

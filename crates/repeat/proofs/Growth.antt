@@ -4,15 +4,16 @@ use mathlib.Core.Path.{◌≡◌, refl, sym, ap, subst, ◌∙◌}
 use mathlib.Core.Bool.{Bool, true, false, cond}
 use mathlib.Core.Logic.{⊎_elim, ◌≢◌, ◌↔◌}
 use mathlib.Core.List.{List, []}
-use Prim.Native.Nat.{ℕ, ◌+◌, ◌*◌, ◌-◌, ◌/◌, ◌%◌, ◌^◌, ◌<◌, ◌≤◌, ◌∣◌, min, max}
-use native.Mathlib.Nat.{le_refl, mul_assoc, one-mul, eq-zero-or-pos, mul-pos, mul-le-mul, mul-le-mul_right, le-mul_of_pos_right, eq_of_mul-eq-mul_left, eq_of_mul-eq-mul_right, mod-lt, mod-eq_of_lt, mod-eq-sub-mod, add-mod, mod-eq-sub-div-mul, dvd-sub, dvd-mul_left, dvd-mul_right, dvd-mul_left_of_dvd, dvd_of_mod-eq-zero, mod-eq-zero_of_dvd, div-mul_cancel}
+use Prim.Native.Nat.{ℕ, ◌+◌, ◌*◌, ◌-◌, ◌/◌, ◌%◌, ◌<◌, ◌≤◌, ◌∣◌, min, max}
+use native.Mathlib.Nat.{mul_assoc, one-mul, eq-zero-or-pos, mul-pos, mul-le-mul_right, le-mul_of_pos_right, eq_of_mul-eq-mul_left, eq_of_mul-eq-mul_right, mod-lt, add-mod, mod-eq-sub-div-mul, dvd-sub, dvd-mul_left, dvd-mul_right, dvd-mul_left_of_dvd, dvd_of_mod-eq-zero, mod-eq-zero_of_dvd, div-mul_cancel}
 use native.Mathlib.Omega.{arith}
 use lib.Dec.{eqb, ltb}
 use lib.ListN.{length, get_or, set}
 use lib.Seq.{get_or-set_same, get_or-set_other}
+use Rattle.std.specs.Prelude.{Ok, Err}
 use borrow.Author.Count.{below_more}
 use borrow.Author.Tests.{eqb-false, eqb-true}
-use Rattle.units.specs.Bounds.{max_rate, max_repetition}
+use Rattle.units.specs.Bounds.{max_repetition}
 use Rattle.sets.specs.Sets.{has, Covers, Below, Put, Marked, Gathers, word}
 use Rattle.sets.proofs.Bits.{has_none, has_small, has_bit}
 use Rattle.sets.proofs.Gather.{gather_start, gather_vector}
@@ -26,12 +27,9 @@ use Rattle.trial.specs.Flat.{vector}
 use Rattle.trial.specs.Read.{Read}
 use Rattle.trial.specs.Knot.{enough, waits, Awaits}
 use Rattle.trial.proofs.Places.{stored}
-use Rattle.repeat.specs.Words.{AllFrom, Joins, Words}
-use Rattle.repeat.specs.Repetition.{Numbered, LeastFactor, Multiples, Within, Grown, Extended, Even, Equal, Repeats}
-
--- Firings within the bound at a rate within it move fewer tokens than 64 bits hold.
-pub moved_fits : {n rate : ℕ} → n ≤ max_repetition → rate ≤ max_rate → n * rate < 2 ^ 64
-moved_fits a b = omega (arith, mul-le-mul a b)
+use Rattle.repeat.specs.Words.{AllFrom, Joins, Words, Between}
+use Rattle.repeat.specs.declared.repetition.Unnumbered.{Unnumbered}
+use Rattle.repeat.specs.Repetition.{Numbering, SettleAnswer, RepetitionAnswer, Numbered, LeastFactor, Multiples, Within, Grown, Extended, Even, Equal, Repeats}
 
 positive_factor : (n m : ℕ) → 0 < n * m → 0 < n
 positive_factor n m p = ⊎_elim (λ (z : n ≡ 0). omega (arith, ap (λ (n : ℕ). n * m) z)) (λ q. q) (eq-zero-or-pos n)
@@ -43,10 +41,6 @@ pub record Factoring (m c k rest : ℕ) : Type 0 where
   pub leaves : rest ≡ k * m % c
   pub least : (j : ℕ) → 0 < j → c ∣ j * m → k ≤ j
 
--- At 1 nothing smaller has to be tried.
-pub factoring_start : (m c : ℕ) → 0 < c → Factoring m c 1 (m % c)
-factoring_start m c p = record { positive = omega arith; within = p; leaves = rw one-mul; least = λ j q d. q }
-
 -- A number that leaves something is below c, and the search goes on at the next.
 pub factoring_turn : {m c k rest : ℕ} → Factoring m c k rest → rest ≢ 0 → (k < c) × Factoring m c (k + 1) ((rest + m % c) % c)
 factoring_turn {m} {c} {k} {rest} f n =
@@ -55,14 +49,6 @@ factoring_turn {m} {c} {k} {rest} f n =
     let below : k < c = over c (omega arith) (dvd-mul_right c m) in
     let next : (k + 1) * m ≡ k * m + m = omega arith in
     (below, record { positive = omega arith; within = omega arith; leaves = rw (f.leaves, next, add-mod (k * m) m c); least = λ j q d. omega (arith, over j q d) })
-
--- What is left, and what is left of m, are below c.
-pub factoring_below : {m c k rest : ℕ} → Factoring m c k rest → (rest < c) × (m % c < c)
-factoring_below {m} {c} {k} f = (rw f.leaves (mod-lt (k * m) (omega arith)), mod-lt m (omega arith))
-
--- What is left of a number below twice c: without a division.
-pub left_again : {n c : ℕ} → c ≤ n → n < 2 * c → n - c ≡ n % c
-left_again {n} {c} h l = sym (mod-eq-sub-mod h ∙ mod-eq_of_lt (omega arith))
 
 -- A number that leaves nothing is the least factor.
 pub factoring_end : {m c k rest : ℕ} → Factoring m c k rest → rest ≡ 0 → LeastFactor m c k
@@ -83,19 +69,6 @@ factor_divides m c k j f d =
 pub record Scaling (k i : ℕ) (before now : List ℕ) : Type 0 where
   pub done : (v : ℕ) → v < i → (vector now v ≡ vector before v * k) × (vector now v ≤ max_repetition)
   pub rest : (v : ℕ) → i ≤ v → vector now v ≡ vector before v
-
--- Before the first number nothing has changed.
-pub scaling_start : (k : ℕ) (q : List ℕ) → Scaling k 0 q q
-scaling_start k q = record { done = λ v l. omega arith; rest = λ v l. refl }
-
--- The next number stored k times as large, where that is within the bound.
-pub scaling_turn : {k i : ℕ} {before now : List ℕ} → Scaling k i before now → i < length now → vector now i * k ≤ max_repetition → Scaling k (i + 1) before (set now i (vector now i * k))
-scaling_turn {k} {i} {before} {now} s h b =
-    let here : vector now i ≡ vector before i = s.rest i (le_refl i) in
-    record {
-      done = λ v l. stored (λ v n. v < i + 1 → (n ≡ vector before v * k) × (n ≤ max_repetition)) now i (vector now i * k) h (λ _. (ap (λ (n : ℕ). n * k) here, b)) v (λ d l. s.done v (omega arith)) l;
-      rest = λ v l. stored (λ v n. i + 1 ≤ v → n ≡ vector before v) now i (vector now i * k) h (λ l. omega arith) v (λ d l. s.rest v (omega arith)) l;
-    }
 
 module _ (g : Graph) (x : ℕ → ℕ) (m : Multiples g x) (b : ℕ → ℕ) (balanced : Balanced g b) (v : ℕ) (l : v < g.actors) where
   multiplier_positive : 0 < x v → 0 < (m b balanced).0
@@ -123,6 +96,20 @@ pub record Extending (g : Graph) (c : ℕ) (e : Channel) (x : ℕ → ℕ) (k : 
   pub given : 0 < x e.tail
   pub missing : x e.head ≡ 0
   pub factor : LeastFactor (x e.tail * e.produce) e.consume k
+
+-- From what the graph says of its channel c.
+pub extending : {g : Graph} {c : ℕ} {e : Channel} {x : ℕ → ℕ} {k : ℕ} → Sound g → c < g.channels → Read g c e → Grown g x → 0 < x (g.channel c).tail → x (g.channel c).head ≡ 0
+    → LeastFactor (x e.tail * e.produce) e.consume k → Extending g c e x k
+extending {g} {c} {e} {x} sound within read grown given missing factor =
+    record {
+      sound = sound;
+      within = within;
+      read = read;
+      grown = grown;
+      given = subst (λ (e : Channel). 0 < x e.tail) read.is given;
+      missing = subst (λ (e : Channel). x e.head ≡ 0) read.is missing;
+      factor = factor;
+    }
 
 module _ {g : Graph} {c : ℕ} {e : Channel} {x : ℕ → ℕ} {k : ℕ} (i : Extending g c e x k) where
   next_multiples : (y : ℕ → ℕ) → Next g.actors k e x y → Multiples g y
@@ -253,6 +240,11 @@ module _ (g : Graph) (q : List ℕ) (grown : Grown g (vector q)) where
         eq_of_mul-eq-mul_left j (multiplier_positive g (vector q) grown.multiple b a.1 g.input sound.input grown.input) _ _
         (omega (arith, a.1.equal c l, ap (λ (m : ℕ). m * e.produce) (at e.tail (sound.tail c l)), ap (λ (m : ℕ). m * e.consume) (at e.head (sound.head c l)))))
 
+-- So the numbers are found where they settle.
+pub grown_settled : (g : Graph) (r : Numbering) (q awaits : List ℕ) → Sound g → Grown g (vector q) → ((v : ℕ) → v < g.actors → 0 < vector q v) → SettleAnswer g r q awaits → RepetitionAnswer g r q awaits
+grown_settled g (Ok _) q awaits sound grown positive s = let e = grown_equal g q grown positive s.0 in (e.0, e.1, s.1)
+grown_settled g (Err e) q awaits sound grown positive s = subst (λ (e : Unnumbered). RepetitionAnswer g (Err e) q awaits) (sym s.0) (grown_unequal g q grown positive sound s.1)
+
 -- Whom the numbers stand at, and who is next: those known have a number, and those to do are the others whom a channel leads to from
 -- somebody known.
 pub record Growing (g : Graph) (words : List ℕ) (known todo : ℕ) (q : List ℕ) : Type 0 where
@@ -281,7 +273,7 @@ growing_start {g} {words} q {known} {todo} sound room none p t =
     alone : (v : ℕ) → has known v ≡ 1 → v ≡ g.input
     alone v h = ⊎_elim (λ e. e) (λ d. absurd (omega (arith, p.there v d, has_none v))) (eq_or_ne v g.input)
 
-module _ {g : Graph} {words between : List ℕ} {known todo : ℕ} {q : List ℕ} (sound : Sound g) (told : Words g words between) (i : Growing g words known todo q) where
+module _ {g : Graph} {words : List ℕ} {known todo : ℕ} {q : List ℕ} (sound : Sound g) (told : Words g words) (i : Growing g words known todo q) where
   -- Who is to do is an actor.
   pub growing_actor : (h : ℕ) → has todo h ≡ 1 → h < g.actors
   growing_actor h o =
@@ -302,9 +294,9 @@ module _ {g : Graph} {words between : List ℕ} {known todo : ℕ} {q : List ℕ
       (eq-zero-or-pos both)
 
   -- By the channel that stands for the two of them.
-  pub growing_joins : (h t both : ℕ) → has todo h ≡ 1 → ((v : ℕ) → has both v ≡ min (has (word words 1 h) v) (has known v)) → has both t ≡ 1
+  pub growing_joins : (between : List ℕ) → Between g words between → (h t both : ℕ) → has todo h ≡ 1 → ((v : ℕ) → has both v ≡ min (has (word words 1 h) v) (has known v)) → has both t ≡ 1
       → (t < g.actors) × Joins g (get_or between (g.actors * t + h) 0) t h × (0 < vector q t) × (vector q h ≡ 0)
-  growing_joins h t both o m b =
+  growing_joins between pairs h t both o m b =
       let k : has known t ≡ 1 = omega (arith, m t, has_small known t, has_small (word words 1 h) t) in
       let lt : t < g.actors = i.inside t k in
       let lh : h < g.actors = growing_actor h o in
@@ -312,7 +304,7 @@ module _ {g : Graph} {words between : List ℕ} {known todo : ℕ} {q : List ℕ
       let s : has (word words 0 (g.channel c.0).tail) (g.channel c.0).head ≡ 1 = told.heads.holds c.0 c.1 refl in
       let w : has (word words 0 t) h ≡ 1 = rw (c.2, c.3) at s in (
         lt,
-        told.joins t h lt lh w,
+        pairs t h lt lh w,
         (i.counted t lt).0 k,
         ⊎_elim (λ z. z) (λ p. absurd (omega (arith, (i.counted h lh).1 p, i.apart h o))) (eq-zero-or-pos (vector q h)),
       )
@@ -364,10 +356,6 @@ module _ {g : Graph} {words between : List ℕ} {known todo : ℕ} {q : List ℕ
       let k : has known tail ≡ 1 = (i.counted tail (sound.tail c l)).1 p in
       (i.counted head (sound.head c l)).0
       (omega (arith, i.leads tail head k (told.heads.holds c l refl), ap (λ (x : ℕ). has x head) z, has_none head, has_small known head))
-
-  -- Where all are known, all have a number.
-  pub growing_all : Covers known g.actors → (v : ℕ) → v < g.actors → 0 < vector q v
-  growing_all all v l = (i.counted v l).0 (all v l)
 
   -- Where not all are and nobody is left to do, the input does not reach them all.
   pub growing_unreached : todo ≡ 0 → (¬ Covers known g.actors) → ¬ AllFrom g g.input

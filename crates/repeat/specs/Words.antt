@@ -17,13 +17,15 @@ abbrev pub keeps : Graph → ℕ → Bool
 keeps g c = ltb (g.channel c).tokens (g.channel c).consume
 
 -- An actor's words: the heads of the channels out of it, the tails of those into it, and the tails of those of them that are tied.
--- And for every pair of actors that a channel joins there stands such a channel.
-pub record Words (g : Graph) (words between : List ℕ) : Type 0 where
+pub record Words (g : Graph) (words : List ℕ) : Type 0 where
   pub room : length words ≡ 3 * g.actors
   pub heads : Gathers g.actors g.channels (λ c. (g.channel c).tail) (λ c. (g.channel c).head) (λ _. true) (word words 0)
   pub tails : Gathers g.actors g.channels (λ c. (g.channel c).head) (λ c. (g.channel c).tail) (λ _. true) (word words 1)
   pub tied : Gathers g.actors g.channels (λ c. (g.channel c).head) (λ c. (g.channel c).tail) (tied g) (word words 2)
-  pub joins : (t h : ℕ) → t < g.actors → h < g.actors → has (word words 0 t) h ≡ 1 → Joins g (get_or between (g.actors * t + h) 0) t h
+
+-- For every pair of actors that a channel joins there stands such a channel.
+abbrev pub Between : Graph → (words between : List ℕ) → Type 0
+Between g words between = (t h : ℕ) → t < g.actors → h < g.actors → has (word words 0 t) h ≡ 1 → Joins g (get_or between (g.actors * t + h) 0) t h
 
 -- The set of those that a channel keeps from firing in the initial tokens.
 abbrev pub KeptBack : Graph → ℕ → Type 0

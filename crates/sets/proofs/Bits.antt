@@ -2,12 +2,10 @@
 use mathlib.Core.Path.{◌≡◌, refl, sym, ap, ap₂, ◌∙◌, subst}
 use mathlib.Core.Logic.{◌⊎◌, inl, inr, ⊎_elim, ◌≢◌}
 use mathlib.Core.Bool.{Bool, true, false, cond}
-use mathlib.Core.List.{List}
 use Prim.Native.Nat.{ℕ, zero, suc, ◌+◌, ◌-◌, ◌*◌, ◌/◌, ◌%◌, ◌^◌, ◌≤◌, ◌<◌, min, max}
 use native.Mathlib.Nat.{pow-suc, pow-zero, div-one, zero-div, div-eq_of_lt, div-eq_of_lt-le, div-div-eq-div-mul, mul_comm, mod-lt, le_refl, lt_of_lt_of_le, eq-zero-or-pos, mul-le-mul_right}
 use native.Mathlib.Omega.{arith}
-use lib.ListN.{length, get_or, set}
-use lib.Seq.{get_or-set_same, get_or-set_other}
+use lib.ListN.{set}
 use lib.Arith.{digits_mod}
 use lib.Pow.{pow_pos, pow_mono, pow-lt, ones_split, high, ones_lt, shl_exact}
 use lib.Bits.{bit_and, bit_or, or_step, and_step, or_shr, and_shr}
@@ -17,7 +15,7 @@ use mir.Val.{bool_byte}
 use borrow.Author.Tests.{eqb-true, eqb-false}
 use Rattle.sdf.proofs.Numbers.{lt_or_ge}
 use Rattle.sets.specs.Decides.{Decides}
-use Rattle.sets.specs.Sets.{has, Covers, Below, Put, Marked}
+use Rattle.sets.specs.Sets.{has, Covers, Below, Put}
 
 -- The lowest bit says whether 0 is in the set.
 pub has_zero : (set : ℕ) → has set 0 ≡ set % 2
@@ -213,10 +211,6 @@ put_flag set v false k = rw (bit_moved 0 v (omega arith) k) (put_with set v 0 (o
 pub put_less : {set v new : ℕ} → Put set v 0 new → has set v ≡ 1 → new < set
 put_less {set} {v} {new} p h = omega (arith, p.size, ap (λ (x : ℕ). x * 2 ^ v) h, pow_pos v)
 
--- A set with somebody new is larger.
-pub put_more : {set v new : ℕ} → Put set v 1 new → has set v ≡ 0 → set < new
-put_more {set} {v} {new} p h = omega (arith, p.size, ap (λ (x : ℕ). x * 2 ^ v) h, pow_pos v)
-
 -- A set into which somebody new is put is larger.
 pub put_grows : {set v bit new : ℕ} → Put set v bit new → has set v ≡ 0 → 0 < bit → set < new
 put_grows {set} {v} {bit} {new} p h b = omega (arith, p.size, ap (λ (x : ℕ). x * 2 ^ v) h, pow_pos v, mul-le-mul_right (2 ^ v) b)
@@ -237,12 +231,3 @@ has_leading set p l =
     let t = leading_top 64 set p l in
     let e : 63 - count_leading_zeros 64 set ≡ t.0 = omega (arith, t.1) in
     rw e (has_top t.0 t.2 t.3)
-
--- A set that is not empty has somebody.
-pub has_some : {set : ℕ} → 0 < set → set < 2 ^ 64 → (v : ℕ) × (has set v ≡ 1)
-has_some {set} p l = (count_trailing_zeros 64 set, has_trailing 64 set p l)
-
--- A store of the word with v too marks its place.
-pub marked : (words : List ℕ) (at v bit new : ℕ) → at < length words → Put (get_or words at 0) v (max (has (get_or words at 0) v) bit) new → Marked at v bit words (set words at new)
-marked words at v bit new l p =
-    record { kept = λ i d. get_or-set_other words at i new 0 d; put = rw (get_or-set_same words at new 0 l) p }

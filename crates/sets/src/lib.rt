@@ -1,7 +1,8 @@
 // Sets of up to 64 actors, each the bits of one word, and slices of such words.
 #![tactic(auto)]
 
-ghost use Rattle.std.specs.Prelude.{◌≡◌, cond, ℕ, ◌*◌, ◌/◌, ◌-◌, ◌^◌, ◌<◌, ◌≤◌, min, max, length, get_or};
+ghost use Rattle.std.specs.Prelude.{◌≡◌, cond, ℕ, ◌*◌, ◌/◌, ◌-◌, ◌^◌, ◌<◌, ◌≤◌, min, max, length, get_or, MatchOption};
+ghost use Rattle.std.specs.Iterator.{at_most};
 ghost use Rattle.sets.specs.Decides.{Decides};
 ghost use Rattle.sets.specs.Sets.{has, Covers, Below, Put, Marked, word, Spread};
 
@@ -77,6 +78,37 @@ pub fn least(set: u64) -> usize
     u64::trailing_zeros(set) as usize
 }
 
+// The actors of a set one after the other, the one with the lowest number first.
+#[derive(Drop)]
+pub struct Members {
+    rest: u64,
+}
+
+impl Members {
+    pub fn of(set: u64) -> Self
+        ensures { result.rest ≡ set }
+    {
+        Self { rest: set }
+    }
+}
+
+impl Iterator for Members {
+    type Item = usize;
+
+    ghost next_gives = { λ s r t. MatchOption r (s.rest ≡ 0) (λ v. (v < 64) × (has s.rest v ≡ 1) × Put s.rest v 0 t.rest) };
+
+    ghost remaining = { λ s. at_most s.rest };
+
+    fn next(&mut self) -> Option<usize> {
+        if self.rest == 0 {
+            return None;
+        }
+        let v = least(self.rest);
+        self.rest = without(self.rest, v);
+        Some(v)
+    }
+}
+
 // Somebody of the set: the one with the highest number.
 pub fn greatest(set: u64) -> usize
     requires { 0 < set }
@@ -113,9 +145,5 @@ pub fn clear(n: usize, words: &mut [u64])
     requires { n ≤ length words.old }
     ensures { (v : ℕ) → v < n → get_or words.new v 0 ≡ 0 }
 {
-    let mut i = 0;
-    while i < n {
-        words[i] = 0;
-        i += 1;
-    }
+    words[..n].fill(0);
 }

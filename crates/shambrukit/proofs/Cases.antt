@@ -8,7 +8,7 @@ use Rattle.sheet.specs.Fields.{to_bytes}
 use Rattle.shambrukit.specs.declared.Verdict.{Verdict}
 use Rattle.ready.specs.Lines.{Outcome}
 use Rattle.shambrukit.specs.Verdict.{row_of, SheetVerdict}
-use Rattle.shambrukit.specs.Calls.{SheetTold, told_of, demand_told, fewest_told, numbers_of, skip_numbers, task_list}
+use Rattle.shambrukit.specs.Calls.{SheetTold, reply_of, demand_told, fewest_told, numbers_of, skip_numbers, task_list}
 use Rattle.shambrukit.proofs.Exists.{sheet_exists, verdict_exists}
 
 -- A row says which five numbers the judge gives for the bytes, or which numbers a call gives that goes by the outcome.
@@ -70,13 +70,13 @@ table =
     ∷ verdict (sheet 32 0x00_20_01_01_02_01_00_01_00_00_00_0A_00_00_00_0A_00_00_00_01_00_00_00_01_00_01_00_02_00_03_00_00) (9 ∷ 0 ∷ 0 ∷ 0 ∷ 0 ∷ [])
     ∷ verdict (sheet 36 0x00_24_01_02_01_00_00_00_00_00_00_0A_00_00_00_06_00_00_00_03_01_00_00_00_00_00_00_0F_00_00_00_05_00_00_00_04) (21 ∷ 0 ∷ 17 ∷ 30 ∷ 6 ∷ [])
     ∷ told C1 (λ o. numbers_of skip_numbers o 0) (0 ∷ 2 ∷ 0 ∷ [])
-    ∷ told C1 (λ o. told_of (fewest_told o 0 1 0)) (0 ∷ 0 ∷ 0 ∷ [])
-    ∷ told C1 (λ o. told_of (fewest_told o 0 1 1)) (0 ∷ 0 ∷ 1 ∷ [])
-    ∷ told C1 (λ o. told_of (fewest_told o 0 1 2)) (0 ∷ 0 ∷ 4 ∷ [])
-    ∷ told C1 (λ o. told_of (demand_told o 3)) (0 ∷ 0 ∷ 0 ∷ [])
-    ∷ told C1 (λ o. told_of (demand_told o 4)) (0 ∷ 0 ∷ 4 ∷ [])
-    ∷ told C1 (λ o. told_of (demand_told o 11)) (0 ∷ 0 ∷ 4 ∷ [])
-    ∷ told C1 (λ o. told_of (demand_told o 12)) (0 ∷ 0 ∷ 12 ∷ [])
+    ∷ told C1 (λ o. reply_of (fewest_told o 0 1 0)) (0 ∷ 0 ∷ 0 ∷ [])
+    ∷ told C1 (λ o. reply_of (fewest_told o 0 1 1)) (0 ∷ 0 ∷ 1 ∷ [])
+    ∷ told C1 (λ o. reply_of (fewest_told o 0 1 2)) (0 ∷ 0 ∷ 4 ∷ [])
+    ∷ told C1 (λ o. reply_of (demand_told o 3)) (0 ∷ 0 ∷ 0 ∷ [])
+    ∷ told C1 (λ o. reply_of (demand_told o 4)) (0 ∷ 0 ∷ 4 ∷ [])
+    ∷ told C1 (λ o. reply_of (demand_told o 11)) (0 ∷ 0 ∷ 4 ∷ [])
+    ∷ told C1 (λ o. reply_of (demand_told o 12)) (0 ∷ 0 ∷ 12 ∷ [])
     ∷ told C1 (λ o. numbers_of task_list o 0) (1 ∷ 4 ∷ 8 ∷ 2 ∷ 4 ∷ 8 ∷ 4 ∷ 12 ∷ 8 ∷ 1 ∷ 4 ∷ 8 ∷ [])
     ∷ []
 

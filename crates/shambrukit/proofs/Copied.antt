@@ -1,24 +1,31 @@
--- One number more of a list is copied into the first places of lent memory.
-use mathlib.Core.Path.{◌≡◌}
+-- The number of one actor more stands in the first places of lent memory.
+use mathlib.Core.Path.{◌≡◌, ◌∙◌}
 use mathlib.Core.List.{List, ◌++◌}
 use Prim.Native.Nat.{ℕ, suc, ◌+◌, ◌<◌, ◌≤◌}
 use native.Mathlib.Numerals.{add-one}
 use native.Mathlib.Omega.{arith}
-use lib.ListN.{length, get_or, take, drop, set, length-append, length-drop}
-use lib.Seq.{drop-cons, take-suc, set_at, length-take-le, append_snoc}
+use lib.ListN.{length, get_or, take, drop, set}
+use lib.Seq.{drop-cons, set_at, append_snoc}
+use Rattle.std.specs.Prelude.{map}
+use Rattle.std.proofs.lemmas.List.{map_more, length-map, length-take-le, take_all}
+use Rattle.demand.specs.declared.rows.Actor.{Actor}
 
--- The first i numbers of `from` stand in the first places, and behind them the memory is as it was before.
-pub record Copied (from before now : List ℕ) (i : ℕ) : Type 0 where
-  pub is : now ≡ take i from ++ drop i before
+-- The numbers of the first v actors stand in the first places, and behind them the memory is as it was before.
+abbrev pub Copied : (Actor → ℕ) → List Actor → List ℕ → List ℕ → ℕ → Type 0
+Copied field actors before now v = now ≡ map field (take v actors) ++ drop v before
 
 -- The next number is copied.
 pub copied_turn :
-    {from before now : List ℕ} {i : ℕ} → Copied from before now i → i < length from → i < length before →
-    Copied from before (set now i (get_or from i 0)) (i + 1)
-copied_turn {from} {before} {now} {i} e h l =
-    record { is = rw (e.is, drop-cons before i 0 l, set_at (take i from) (get_or before i 0) (drop (suc i) before) (get_or from i 0) i (length-take-le i from (omega arith)), add-one, take-suc from i 0 h, append_snoc) }
+    (field : Actor → ℕ) (actors : List Actor) (before : List ℕ) {now : List ℕ} {v n : ℕ} (none : Actor) → Copied field actors before now v →
+    v < length actors → v < length before → n ≡ field (get_or actors v none) → Copied field actors before (set now v n) (v + 1)
+copied_turn field actors before {now} {v} {n} none e h l m =
+    let done : length (map field (take v actors)) ≡ v = rw length-map (length-take-le v actors (omega arith)) in
+    rw (e, drop-cons before v 0 l, set_at (map field (take v actors)) (get_or before v 0) (drop (suc v) before) n v done, m, map_more field actors v none h, add-one, append_snoc)
 
--- The memory keeps its length.
-pub copied_length :
-    {from before now : List ℕ} {i : ℕ} → Copied from before now i → i ≤ length from → i ≤ length before → length now ≡ length before
-copied_length {from} {before} {now} {i} e h l = simp (e.is, length-append, length-drop, length-take-le i from h) (omega arith)
+-- Those of all actors are copied.
+pub copied_all :
+    (field : Actor → ℕ) (actors : List Actor) (before : List ℕ) {now : List ℕ} {v : ℕ} {all : List Actor} → Copied field actors before now v →
+    length actors ≤ v → v ≤ length actors → actors ≡ all → now ≡ map field all ++ drop (length actors) before
+copied_all field actors before {now} {v} e h l same =
+    let end : v ≡ length actors = omega arith in
+    e ∙ rw (end, take_all (length actors) actors (omega arith), same)

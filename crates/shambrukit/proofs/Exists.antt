@@ -7,6 +7,7 @@ use mathlib.Core.List.{List, [], ◌∷◌, ◌++◌}
 use Prim.Native.Nat.{ℕ, zero, suc, ◌+◌, ◌%◌, ◌<◌, ◌≤◌}
 use native.Mathlib.Nat.{le_of_suc-le-suc, lt_of_not-le, not-suc-le-zero, dvd_iff_mod-eq-zero}
 use native.Mathlib.Omega.{arith}
+use Rattle.std.specs.Prelude.{Ok, Err}
 use lib.ListN.{length, get_or, drop}
 use Rattle.units.specs.Bounds.{max_repetition, max_ticks}
 use Rattle.sdf.specs.Graph.{Graph, Sound}
@@ -24,8 +25,7 @@ use Rattle.edf.specs.Demand.{Works, cost, blocks, demand, iteration, load}
 use Rattle.edf.specs.Frame.{CommonMultiple, Frame}
 use Rattle.edf.proofs.Demand.{within_from_frame}
 use Rattle.trial.specs.Flat.{vector}
-use Rattle.sheet.specs.declared.Answer.{Answer}
-use Rattle.sheet.specs.declared.Answer.TheVariants.{On, No}
+use Rattle.sheet.specs.Answer.{Answer}
 use Rattle.sheet.specs.declared.Refusal.{Refusal}
 use Rattle.sheet.specs.Layout.{fixed_part, actor_part, channel_part, times, layout, total, in_numbers}
 use Rattle.sheet.specs.Fields.{big_endian, numbers, in_range}
@@ -37,7 +37,7 @@ use Rattle.shambrukit.specs.declared.Verdict.{Verdict}
 use Rattle.shambrukit.specs.declared.Verdict.TheVariants.{Accepted, Overload, Late, Refused}
 use Rattle.ready.specs.Graphs.{Judged, drawn, judged, RepetitionNumbers, SkipNumbers, works_of}
 use Rattle.ready.specs.Lines.{Outcome, refused, ready, Unless, fail, meet, With, given, Checked, graph_lines, frame_line, second_walk, list_lines, sheet_lines}
-use Rattle.shambrukit.specs.Verdict.{load_of, Judgement, overload, late, accepted, VerdictOf, SheetVerdict, ListVerdict}
+use Rattle.shambrukit.specs.Verdict.{load_of, Judgement, overload, late, accepted, VerdictOf, VerdictBy, SheetVerdict, ListVerdict}
 use Rattle.ready.proofs.Sound.{drawn_sound}
 use Rattle.ready.proofs.Agree.{repetition_agrees, skips_agree}
 use Rattle.shambrukit.proofs.Minimum.{list_gives, sheet_gives}
@@ -93,9 +93,9 @@ unfolding through
 with_exists x k = through (λ o. given x k)
 
 unfoldable checked_exists :
-    (answer : Answer) (below : Outcome → Type 0) → (answer ≡ On → (o : Outcome) × below o) → (o : Outcome) × Checked answer below o
-checked_exists On below lines = lines refl
-checked_exists (No r) below lines = (refused r, refl)
+    (answer : Answer) (below : Outcome → Type 0) → (answer ≡ Ok tt → (o : Outcome) × below o) → (o : Outcome) × Checked answer below o
+checked_exists (Ok _) below lines = lines refl
+checked_exists (Err r) below lines = (refused r, refl)
 
 unfoldable true_or_not : (b : Bool) → Decided (b ≡ true)
 true_or_not true = inl refl
@@ -158,7 +158,7 @@ frame_exists js =
     unless_exists (frame_or_not ws.graphs (λ i. (ws.work i).period) max_ticks) (λ f. (ready js f.0, refl))
 
 -- Answers 6 to 12.
-unfoldable walk_exists : (n k : ℕ) (l : List ℕ) (js : List Judged) → first_walk in_numbers n k l ≡ On → (o : Outcome) × second_walk n k l js o
+unfoldable walk_exists : (n k : ℕ) (l : List ℕ) (js : List Judged) → first_walk in_numbers n k l ≡ Ok tt → (o : Outcome) × second_walk n k l js o
 unfolding second_walk graph_exists frame_exists
 walk_exists zero k l js e = frame_exists js
 walk_exists (suc n) k l js e =
@@ -198,7 +198,7 @@ verdict_of_exists (ready js F) common = judgement_exists (works_of js) F (common
 
 -- Every byte string has a verdict.
 unfoldable pub verdict_exists : (s : List ℕ) → (v : Verdict) × SheetVerdict s v
-unfolding SheetVerdict sheet_exists verdict_of_exists
+unfolding VerdictBy sheet_exists verdict_of_exists
 verdict_exists s =
     let (o, lines) = sheet_exists s in
     let (v, means) = verdict_of_exists o (λ js F e. (sheet_gives s (rw e at lines)).frame.common) in
@@ -206,7 +206,7 @@ verdict_exists s =
 
 -- Every list has a verdict.
 unfoldable pub list_verdict_exists : (l : List ℕ) → (v : Verdict) × ListVerdict l v
-unfolding ListVerdict list_exists verdict_of_exists
+unfolding VerdictBy list_exists verdict_of_exists
 list_verdict_exists l =
     let (o, lines) = list_exists l in
     let (v, means) = verdict_of_exists o (λ js F e. (list_gives l (rw e at lines)).frame.common) in

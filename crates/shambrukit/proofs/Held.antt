@@ -1,77 +1,95 @@
 -- What the library holds of the judged graphs is what demand takes in rows.
-use mathlib.Core.Path.{◌≡◌, refl, ap, ◌∙◌}
+use mathlib.Core.Path.{◌≡◌, sym, ap, subst, ◌∙◌}
 use mathlib.Core.List.{List}
-use Prim.Native.Nat.{ℕ, ◌+◌, ◌*◌, ◌-◌, ◌/◌, ◌<◌}
+use Prim.Native.Nat.{ℕ, ◌+◌, ◌*◌, ◌<◌, ◌≤◌}
 use native.Mathlib.Omega.{arith}
-use lib.ListN.{length, get_or, take, drop, length-drop}
-use lib.Seq.{length-take-le, get_or-take, get_or-drop}
-use Rattle.edf.specs.Demand.{Works}
+use lib.ListN.{length, get_or, take, drop}
+use Rattle.std.specs.Prelude.{map}
+use Rattle.std.proofs.Math.ListN.{get_or-map}
+use Rattle.std.proofs.lemmas.List.{get_or-take, get_or-drop}
 use Rattle.edf.specs.Frame.{Frame}
-use Rattle.demand.specs.Lent as lent
-use Rattle.sheet.proofs.Walk.{part_is_drop}
+use Rattle.demand.specs.declared.rows.Head.{Head}
+use Rattle.demand.specs.declared.rows.Actor.{Actor}
+use Rattle.demand.specs.declared.rows.Rows.{Rows}
+use Rattle.demand.specs.Lent.{no_head, no_actor, work_at, Lent}
+use Rattle.demand.specs.Rows.{works_in, work_in, actors_in}
 use Rattle.ready.specs.Graphs.{Judged, nothing, work_of, works_of}
-use Rattle.shambrukit.specs.Held.{Stand, Framed}
+use Rattle.ready.specs.Rows as stand
 use Rattle.ready.proofs.Same.{SameWork, Same, bounded_same, frame_same}
+use Rattle.shambrukit.specs.Held.{Stand, Framed}
 
--- The numbers behind place k of the rows, as they are lent.
-abbrev pub behind_place : ℕ → List ℕ → List ℕ
-behind_place k rows = take (length rows - k) (drop k rows)
+-- A number of an actor, read from the row.
+column_at :
+    (field : Actor → ℕ) (actors : List Actor) (i m v : ℕ) {xs : List ℕ} → map field (stand.row_at actors i m) ≡ xs → v < m →
+    field (get_or actors (32 * i + v) no_actor) ≡ get_or xs v (field no_actor)
+column_at field actors i m v e h =
+    let xs : List Actor = stand.row_at actors i m in
+    let x : get_or xs v no_actor ≡ get_or actors (32 * i + v) no_actor = get_or-take m (drop (32 * i) actors) v no_actor h ∙ get_or-drop (32 * i) actors v no_actor in
+    ap field (sym x) ∙ sym (get_or-map field xs v no_actor) ∙ ap (λ (ys : List ℕ). get_or ys v (field no_actor)) e
 
--- The graphs as demand is lent them.
-abbrev pub lent_works : ℕ → List ℕ → List ℕ → Works
-lent_works n heads rows = lent.works_of (take (3 * n) heads) rows (behind_place 32 rows) (behind_place 64 rows) 96
-
--- A number of a column, read from the rows.
-pub column_at : (rows xs : List ℕ) (m place v at : ℕ) → take m (drop place rows) ≡ xs → v < m → at ≡ place + v → get_or rows at 0 ≡ get_or xs v 0
-column_at rows xs m place v at e h p =
-    rw (p, ← e, get_or-take m (drop place rows) v 0 h, get_or-drop place rows v 0)
-
-module _ {js : List Judged} {n : ℕ} {heads rows : List ℕ} (st : Stand js n heads rows) where
-  -- All their heads are lent.
-  pub heads_length : length (take (3 * n) heads) ≡ 3 * n
-  heads_length = length-take-le (3 * n) heads (omega (arith, st.count, st.graphs.graphs, st.heads_there))
-
-  -- As many graphs are lent.
-  pub lent_graphs : length (take (3 * n) heads) / 3 ≡ length js
-  lent_graphs = omega (arith, heads_length, st.count)
-
+module _ {js : List Judged} {heads : List Head} {actors : List Actor} (st : stand.Rows js heads actors) where
   -- Graph i is lent as it was judged.
-  pub lent_work : (i : ℕ) → i < length js → SameWork ((lent_works n heads rows).work i) (work_of (get_or js i nothing))
-  lent_work i h =
-      let r = st.graphs.row i h in
+  work_stands : (i : ℕ) → i < length js → SameWork (work_at heads actors 32 i) (work_of (get_or js i nothing))
+  work_stands i h =
+      let r = st.row i h in
       let m = length (get_or js i nothing).times in
       record {
-        period = get_or-take (3 * n) heads (3 * i) 0 (omega (arith, st.count)) ∙ r.period;
-        deadline = get_or-take (3 * n) heads (3 * i + 1) 0 (omega (arith, st.count)) ∙ r.deadline;
-        actors = get_or-take (3 * n) heads (3 * i + 2) 0 (omega (arith, st.count)) ∙ r.actors;
-        time = λ v l. column_at rows _ m (96 * i) v (96 * i + v) r.times l refl;
-        repetition = λ v l.
-            rw (part_is_drop rows 32, get_or-drop 32 rows (96 * i + v) 0) (column_at rows _ m (96 * i + 32) v (32 + (96 * i + v)) r.repetition l (omega arith));
-        skip = λ v l.
-            rw (part_is_drop rows 64, get_or-drop 64 rows (96 * i + v) 0) (column_at rows _ m (96 * i + 64) v (64 + (96 * i + v)) r.skips l (omega arith));
+        period = r.period;
+        deadline = r.deadline;
+        actors = r.count;
+        time = λ v l. column_at (λ (a : Actor). a.time.n) actors i m v r.times l;
+        repetition = λ v l. column_at (λ (a : Actor). a.repetition.n) actors i m v r.repetition l;
+        skip = λ v l. column_at (λ (a : Actor). a.skip.n) actors i m v r.skips l;
       }
 
-  -- All graphs are lent as they were judged.
-  pub lent_same : Same (lent_works n heads rows) (works_of js)
-  lent_same = record { graphs = lent_graphs; work = lent_work }
-
-  -- They are lent as demand asks.
-  pub lent_held : lent.Lent (take (3 * n) heads) rows (behind_place 32 rows) (behind_place 64 rows) 96
-  lent_held =
+  -- The judged graphs, and no others, are lent as demand asks.
+  pub stand_lent : length heads ≡ length js → 256 ≤ length actors → Lent heads actors 32
+  stand_lent e room =
       record {
         bounded = record {
-          graphs = omega (arith, lent_graphs, st.graphs.graphs);
-          work = λ i h. let l : i < length js = omega (arith, lent_graphs) in bounded_same (lent_work i l) (st.graphs.bounded i l);
+          graphs = omega (arith, st.graphs);
+          work = λ i h. let l : i < length js = omega arith in bounded_same (work_stands i l) (st.bounded i l);
         };
-        actors = λ i h.
-            let l : i < length js = omega (arith, lent_graphs) in
-            omega (arith, (lent_work i l).actors, st.graphs.actors i l);
-        times_there = omega (arith, lent_graphs, st.graphs.graphs, st.rows_there);
-        repetition_there = omega (arith, lent_graphs, st.graphs.graphs, st.rows_there, ap length (part_is_drop rows 32), length-drop 32 rows);
-        skips_there = omega (arith, lent_graphs, st.graphs.graphs, st.rows_there, ap length (part_is_drop rows 64), length-drop 64 rows);
+        fits = λ i h.
+            let l : i < length js = omega arith in
+            omega (arith, (st.row i l).count, st.few i l);
+        there = omega (arith, st.graphs);
         room_high = omega arith;
       }
 
+  -- They stand in the first heads.
+  pub first_heads : (n : ℕ) → length js ≡ n → stand.Rows js (take n heads) actors
+  first_heads n e =
+      record {
+        graphs = st.graphs;
+        row = λ i h.
+            let r = st.row i h in
+            let same : get_or (take n heads) i no_head ≡ get_or heads i no_head = get_or-take n heads i no_head (omega arith) in
+            record {
+              period = rw same r.period;
+              deadline = rw same r.deadline;
+              count = rw same r.count;
+              times = r.times;
+              repetition = r.repetition;
+              skips = r.skips;
+            };
+        bounded = st.bounded;
+        few = st.few;
+      }
+
+module _ {js : List Judged} {rows : Rows} (st : Stand js rows) where
+  -- Graph i is lent as it was judged.
+  pub work_same : (i : ℕ) → i < length js → SameWork (work_in rows i) (work_of (get_or js i nothing))
+  work_same i h = subst (λ (room : ℕ). SameWork (work_at rows.heads.now rows.actors.now room i) (work_of (get_or js i nothing))) (sym st.room) (work_stands st.graphs i h)
+
+  -- All graphs are lent as they were judged.
+  pub works_same : Same (works_in rows) (works_of js)
+  works_same = record { graphs = sym st.count; work = work_same }
+
   -- Their frame is the frame of the periods that are lent.
-  pub lent_frame : {F : ℕ} → Framed js F → Frame (length (take (3 * n) heads) / 3) (λ i. get_or (take (3 * n) heads) (3 * i) 0) F
-  lent_frame f = rw lent_graphs (frame_same (λ i h. (lent_work i h).period) f.0)
+  pub frame_held : {F : ℕ} → Framed js F → Frame (length rows.heads.now) (λ i. (work_in rows i).period) F
+  frame_held f = rw (← st.count) (frame_same (λ i h. (work_same i h).period) f.0)
+
+  -- The actors of graph i are those of its row.
+  pub actors_same : (i : ℕ) → i < length js → actors_in rows i ≡ stand.row_at rows.actors.now i (length (get_or js i nothing).times)
+  actors_same i h = rw (st.room, (st.graphs.row i h).count)

@@ -3,7 +3,7 @@
 use mathlib.Core.Path.{◌≡◌, sym, subst}
 use mathlib.Core.List.{List}
 use Prim.Native.Nat.{ℕ}
-use Rattle.sheet.specs.declared.Answer.{Answer}
+use Rattle.sheet.specs.Answer.{Answer}
 use Rattle.sheet.specs.Fields.{Bytes}
 use Rattle.sheet.specs.Check.{check_sheet}
 use Rattle.sheet.specs.Forms.{packed, unpacked}

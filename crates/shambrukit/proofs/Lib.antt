@@ -2,9 +2,9 @@ pub mod Unique
 pub mod Minimum
 pub mod Exists
 pub mod Cases
-pub mod Copied
-pub mod Held
-pub mod Answers
 pub mod Prepares
 pub mod Inverse
 pub mod Sheets
+pub mod Copied
+pub mod Held
+pub mod Answers

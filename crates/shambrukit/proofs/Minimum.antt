@@ -7,6 +7,7 @@ use mathlib.Core.List.{List, [], ◌∷◌, ◌++◌, append-nil}
 use Prim.Native.Nat.{ℕ, zero, suc, ◌<◌, ◌≤◌}
 use native.Mathlib.Nat.{lt_of_not-le, le_of_suc-le-suc, not-suc-le-zero}
 use native.Mathlib.Omega.{arith}
+use Rattle.std.specs.Prelude.{Ok, Err}
 use lib.ListN.{length, get_or, drop}
 use lib.Dec.{ltb, leb}
 use lib.Seq.{append_snoc}
@@ -23,8 +24,7 @@ use Rattle.edf.specs.Frame as frame
 use Rattle.edf.proofs.Demand.{overload_late}
 use Rattle.edf.specs.Bounds.{Bounded, AllBounded}
 use Rattle.trial.specs.Flat.{vector}
-use Rattle.sheet.specs.declared.Answer.{Answer}
-use Rattle.sheet.specs.declared.Answer.TheVariants.{On, No}
+use Rattle.sheet.specs.Answer.{Answer, Reply, unless}
 use Rattle.sheet.specs.declared.Refusal.{Refusal}
 use Rattle.sheet.specs.declared.Refusal.TheVariants.{Question, Number}
 use Rattle.sheet.specs.Layout.{in_numbers}
@@ -38,10 +38,9 @@ use Rattle.ready.specs.Lines.{Outcome, refused, ready, Unless, fail, meet, With,
 use Rattle.shambrukit.specs.declared.Load.{Load}
 use Rattle.shambrukit.specs.declared.Verdict.{Verdict}
 use Rattle.shambrukit.specs.declared.Verdict.TheVariants.{Accepted, Overload, Late, Refused}
-use Rattle.shambrukit.specs.declared.Told.{Told}
-use Rattle.shambrukit.specs.declared.Told.TheVariants.{Value}
-use Rattle.shambrukit.specs.Verdict.{load_of, overload, late, accepted, VerdictOf, SheetVerdict, ListVerdict}
-use Rattle.shambrukit.specs.Calls.{SheetTold, ListTold, unless_told, fewest_told}
+use Rattle.shambrukit.specs.Verdict.{load_of, overload, late, accepted, VerdictBy, SheetVerdict, ListVerdict}
+use Rattle.shambrukit.specs.Held.{Framed}
+use Rattle.shambrukit.specs.Calls.{Told, SheetTold, ListTold, fewest_told}
 use Rattle.ready.proofs.Sound.{times_length, drawn_sound, bounded_judged}
 
 -- The graph at the start of l passes answers 4 to 11, and j is what judging it finds.
@@ -56,10 +55,6 @@ pub record Passes (l : List ℕ) (j : Judged) : Type 0 where
   pub rest : AtRest (drawn l)
   pub skips : SkipNumbers (drawn l) j.skips
   pub numbers : j ≡ judged l j.repetition j.skips
-
--- F is the frame of the judged graphs, and answer 12 lets it pass.
-abbrev Framed : List Judged → ℕ → Type 0
-Framed js F = frame.Frame (length js) (λ i. (get_or js i nothing).period) F × (F ≤ max_ticks)
 
 -- The graphs of l, one after the other, pass, and js is what judging them finds.
 data Walked : List ℕ → List Judged → Type 0 where
@@ -82,9 +77,9 @@ module _ {js : List Judged} {F : ℕ} where
   with_given (given x k b) = (x, k, b)
 
   -- Lines that do not refuse: answers 1 to 5 do not, and the lines below do not.
-  pub checked_on : (answer : Answer) (below : Outcome → Type 0) → Checked answer below (ready js F) → (answer ≡ On) × below (ready js F)
-  checked_on On below b = (refl, b)
-  checked_on (No r) below e = absurd (let z : ◌≡◌ {A = ℕ} 0 1 = cc in omega arith)
+  pub checked_on : (answer : Answer) (below : Outcome → Type 0) → Checked answer below (ready js F) → (answer ≡ Ok tt) × below (ready js F)
+  checked_on (Ok _) below b = (refl, b)
+  checked_on (Err r) below e = absurd (let z : ◌≡◌ {A = ℕ} 0 1 = cc in omega arith)
 
   graph_gives :
       (k : ℕ) (l : List ℕ) (below : Judged → Outcome → Type 0) → Passed in_numbers l → graph_lines k l below (ready js F) →
@@ -125,7 +120,7 @@ module _ {js : List Judged} {F : ℕ} where
 
   -- A walk that ends in judged graphs: each graph that was to come passes.
   walk_gives :
-      (n k : ℕ) (l : List ℕ) (before : List Judged) → first_walk in_numbers n k l ≡ On → second_walk n k l before (ready js F) →
+      (n k : ℕ) (l : List ℕ) (before : List Judged) → first_walk in_numbers n k l ≡ Ok tt → second_walk n k l before (ready js F) →
       (found : List Judged) × (js ≡ before ++ found) × (length found ≡ n) × Walked l found × Framed js F
   unfolding second_walk
   walk_gives zero k l before first walk =
@@ -207,7 +202,7 @@ pub sheet_fewest :
     Least (graph_at (unpacked s) i) K (fewest (vector (get_or js i nothing).repetition) (vector (get_or js i nothing).skips) K)
 sheet_fewest s js F lines = list_fewest (sheet_gives s lines)
 
-told_value : {n : ℕ} (b : Bool) (r : Refusal) (below : Told) → Value n ≡ unless_told b r below → (b ≡ true) × (Value n ≡ below)
+told_value : {n : ℕ} (b : Bool) (r : Refusal) (below : Reply) → Ok n ≡ unless b r below → (b ≡ true) × (Ok n ≡ below)
 told_value true r below e = (refl, e)
 told_value false r below e = absurd (let z : ◌≡◌ {A = ℕ} 0 1 = cc in omega arith)
 
@@ -218,15 +213,15 @@ LeastOf g K v n =
     × ((order : List ℕ) → Legal g (initial g) order → firings g.output order ≡ K → n ≤ firings v order)
 
 told_least :
-    {l : List ℕ} {js : List Judged} {F : ℕ} → Ready l js F → (i v K n : ℕ) → Value n ≡ fewest_told (ready js F) i v K →
+    {l : List ℕ} {js : List Judged} {F : ℕ} → Ready l js F → (i v K n : ℕ) → Ok n ≡ fewest_told (ready js F) i v K →
     LeastOf (graph_at l i) K v n
 told_least {l} {js} ready_of i v K n e =
     let j : Judged = get_or js i nothing in
     let firings_of : ℕ = fewest (vector j.repetition) (vector j.skips) K v in
-    let question : Told = unless_told (leb K max_outputs) Question (Value firings_of) in
-    let (graph, e) = told_value (ltb i (length js)) Number (unless_told (ltb v (length j.times)) Number question) e in
+    let question : Reply = unless (leb K max_outputs) Question (Ok firings_of) in
+    let (graph, e) = told_value (ltb i (length js)) Number (unless (ltb v (length j.times)) Number question) e in
     let (actor, e) = told_value (ltb v (length j.times)) Number question e in
-    let (_, e) = told_value (leb K max_outputs) Question (Value firings_of) e in
+    let (_, e) = told_value (leb K max_outputs) Question (Ok firings_of) e in
     let same : n ≡ firings_of = cc in
     let h : i < length js = ltb-true _ _ graph in
     let p = ready_of.graph i h in
@@ -247,18 +242,20 @@ Means lines (Overload w) = (js : List Judged) × (F : ℕ) × lines (ready js F)
 Means lines (Late w t) =
     (js : List Judged) × (F : ℕ) × lines (ready js F) × (w ≡ load_of (works_of js) F) × (load (works_of js) F ≤ F) × LateLength (works_of js) t.n
 
-module _ {l : List ℕ} {lines : Outcome → Type 0} (gives : (js : List Judged) (F : ℕ) → lines (ready js F) → Ready l js F) where
-  call_least : (i v K n : ℕ) → (o : Outcome) × lines o × (Value n ≡ fewest_told o i v K) → LeastOf (graph_at l i) K v n
+module _ {l : List ℕ} (lines : Outcome → Type 0) (gives : (js : List Judged) (F : ℕ) → lines (ready js F) → Ready l js F) where
+  call_least : (i v K n : ℕ) → Told lines (λ o. fewest_told o i v K) (Ok n) → LeastOf (graph_at l i) K v n
   call_least i v K n (refused r, h, e) = absurd (let z : ◌≡◌ {A = ℕ} 0 1 = cc in omega arith)
   call_least i v K n (ready js F, h, e) = told_least (gives js F h) i v K n e
 
-  means : (v : Verdict) → (o : Outcome) × lines o × VerdictOf o v → Means lines v
+  means : (v : Verdict) → VerdictBy lines v → Means lines v
+  unfolding VerdictBy
   means v (refused r, h, e) = rw e h
   means v (ready js F, h, overload a e) = rw e (js, F, h, refl, a)
   means v (ready js F, h, late a t b e) = rw e (js, F, h, refl, a, b)
   means v (ready js F, h, accepted a b e) = rw e (js, F, h, refl, b)
 
-  meant : (v : Verdict) → Means lines v → (o : Outcome) × lines o × VerdictOf o v
+  meant : (v : Verdict) → Means lines v → VerdictBy lines v
+  unfolding VerdictBy
   meant (Refused r) h = (refused r, h, refl)
   meant (Accepted w) (js, F, h, e, a) = (ready js F, h, accepted (fits (works_of js) (gives js F h).frame.common a) a (ap Accepted e))
   meant (Overload w) (js, F, h, e, a) = (ready js F, h, overload a (ap Overload e))
@@ -266,22 +263,20 @@ module _ {l : List ℕ} {lines : Outcome → Type 0} (gives : (js : List Judged)
 
 -- What the call answers as the fewest firings of an actor is the least number over the legal orders of the graph asked for.
 pub sheet_told_least :
-    (s : List ℕ) (i v K n : ℕ) → SheetTold s (λ o. fewest_told o i v K) (Value n) → LeastOf (graph_at (unpacked s) i) K v n
-sheet_told_least s = call_least {lines = sheet_lines s} (λ js F. sheet_gives s)
+    (s : List ℕ) (i v K n : ℕ) → SheetTold s (λ o. fewest_told o i v K) (Ok n) → LeastOf (graph_at (unpacked s) i) K v n
+sheet_told_least s = call_least (sheet_lines s) (λ js F. sheet_gives s)
 
 -- So it is for the unpacked form.
-pub list_told_least : (l : List ℕ) (i v K n : ℕ) → ListTold l (λ o. fewest_told o i v K) (Value n) → LeastOf (graph_at l i) K v n
-list_told_least l = call_least {lines = list_lines l} (λ js F. list_gives l)
+pub list_told_least : (l : List ℕ) (i v K n : ℕ) → ListTold l (λ o. fewest_told o i v K) (Ok n) → LeastOf (graph_at l i) K v n
+list_told_least l = call_least (list_lines l) (λ js F. list_gives l)
 
 -- Each verdict on a byte string is given exactly if the lines come to what it means.
 pub verdict_exactly : (s : List ℕ) (v : Verdict) → SheetVerdict s v ↔ Means (sheet_lines s) v
-unfolding SheetVerdict
-verdict_exactly s v = (means (λ js F. sheet_gives s) v, meant (λ js F. sheet_gives s) v)
+verdict_exactly s v = (means (sheet_lines s) (λ js F. sheet_gives s) v, meant (sheet_lines s) (λ js F. sheet_gives s) v)
 
 -- So it is on an unpacked form.
 pub list_verdict_exactly : (l : List ℕ) (v : Verdict) → ListVerdict l v ↔ Means (list_lines l) v
-unfolding ListVerdict
-list_verdict_exactly l v = (means (λ js F. list_gives l) v, meant (λ js F. list_gives l) v)
+list_verdict_exactly l v = (means (list_lines l) (λ js F. list_gives l) v, meant (list_lines l) (λ js F. list_gives l) v)
 
 -- A byte string is accepted exactly if no line refuses it and demand is at most the length at each whole length from zero.
 pub accepted_exactly :

@@ -3,6 +3,7 @@ use mathlib.Core.Path.{◌≡◌, sym, ap, ap₂, ◌∙◌}
 use mathlib.Core.List.{List, [], ◌∷◌, ◌++◌}
 use Prim.Native.Nat.{ℕ, zero, suc, ◌<◌}
 use native.Mathlib.Omega.{arith}
+use Rattle.std.specs.Prelude.{Ok, Err}
 use lib.ListN.{length, get_or, drop}
 use lib.Seq.{ext_get_or}
 use Rattle.sdf.specs.Graph.{Graph}
@@ -12,21 +13,17 @@ use Rattle.edf.specs.Demand.{Works}
 use Rattle.edf.proofs.Demand.{late_one}
 use Rattle.edf.proofs.Frame.{frame_one}
 use Rattle.trial.specs.Flat.{vector}
-use Rattle.sheet.specs.declared.Answer.{Answer}
-use Rattle.sheet.specs.declared.Answer.TheVariants.{On, No}
 use Rattle.sheet.specs.declared.Refusal.{Refusal}
-use Rattle.sheet.specs.declared.Written.{Written}
-use Rattle.sheet.specs.Answer.{filled}
+use Rattle.sheet.specs.Answer.{Answer, Reply, filled}
 use Rattle.sheet.specs.Layout.{in_numbers}
 use Rattle.sheet.specs.Check.{stretch, check_sheet, check_list}
 use Rattle.sheet.specs.Forms.{unpacked}
-use Rattle.shambrukit.specs.declared.Told.{Told}
 use Rattle.shambrukit.specs.declared.Verdict.{Verdict}
 use Rattle.ready.specs.Graphs.{Judged, drawn, judged, RepetitionNumbers, SkipNumbers, works_of}
 use Rattle.ready.specs.Lines.{Outcome, refused, ready, Unless, fail, meet, With, given, Checked, graph_lines, frame_line, second_walk, list_lines, sheet_lines}
-use Rattle.shambrukit.specs.Verdict.{Judgement, overload, late, accepted, VerdictOf, SheetVerdict, ListVerdict, row_of}
-use Rattle.shambrukit.specs.Calls.{SheetTold, ListTold, SheetFills, ListFills, told_of, written_of}
-use Rattle.shambrukit.specs.C.{SheetRow, ListRow, SheetSays, ListSays, SheetLends, ListLends}
+use Rattle.shambrukit.specs.Verdict.{Judgement, overload, late, accepted, VerdictOf, VerdictBy, SheetVerdict, ListVerdict, row_of}
+use Rattle.shambrukit.specs.Calls.{Told, Fills, SheetTold, ListTold, SheetFills, ListFills, reply_of}
+use Rattle.shambrukit.specs.C.{RowBy, SaysBy, LendsBy, SheetRow, ListRow, SheetSays, ListSays, SheetLends, ListLends}
 
 -- Lists of one length that agree at each place are equal.
 same_numbers : (n : ℕ) {x y : List ℕ} → length x ≡ n → length y ≡ n → ((v : ℕ) → v < n → vector x v ≡ vector y v) → x ≡ y
@@ -58,8 +55,8 @@ module _ {o p : Outcome} where
   with_one {X} {below} same one (given x k b) (given y m a) = one x b (rw (← (same x y k m)) at a)
 
   checked_one : (answer : Answer) (below : Outcome → Type 0) → (below o → below p → o ≡ p) → Checked answer below o → Checked answer below p → o ≡ p
-  checked_one On below one b a = one b a
-  checked_one (No r) below one b a = b ∙ sym a
+  checked_one (Ok _) below one b a = one b a
+  checked_one (Err r) below one b a = b ∙ sym a
 
   -- Answers 6 to 11.
   graph_one :
@@ -115,70 +112,89 @@ verdict_of_one : (o : Outcome) {v w : Verdict} → VerdictOf o v → VerdictOf o
 verdict_of_one (refused r) a b = cc
 verdict_of_one (ready js frame) a b = judgement_one (works_of js) frame a b
 
+-- At most one outcome is allowed.
+abbrev pub AtMostOne : (Outcome → Type 0) → Type 0
+AtMostOne lines = (o p : Outcome) → lines o → lines p → o ≡ p
+
 -- Lines with one outcome, and one answer to each outcome: one answer.
-answer_one :
-    {A : Type 0} {lines : Outcome → Type 0} (answer : Outcome → A → Type 0) {a b : A} → ((o p : Outcome) → lines o → lines p → o ≡ p) →
-    ((o : Outcome) → answer o a → answer o b → a ≡ b) → (o : Outcome) × lines o × answer o a → (o : Outcome) × lines o × answer o b → a ≡ b
-answer_one answer one same (o, h, x) (p, k, y) = same p (rw (one o p h k) at x) y
+module _ {lines : Outcome → Type 0} (one : AtMostOne lines) where
+  -- There is at most one verdict.
+  verdict_by_one : {v w : Verdict} → VerdictBy lines v → VerdictBy lines w → v ≡ w
+  unfolding VerdictBy
+  verdict_by_one (o, h, x) (p, k, y) = verdict_of_one p (rw (one o p h k) at x) y
 
--- A byte string has at most one verdict.
-pub verdict_one : (s : List ℕ) {v w : Verdict} → SheetVerdict s v → SheetVerdict s w → v ≡ w
-unfolding SheetVerdict
-verdict_one s = answer_one VerdictOf (λ o p. sheet_one s) (λ o. verdict_of_one o)
+  -- A call that goes by the outcome has at most one answer.
+  told_one : {A : Type 0} (call : Outcome → A) {a b : A} → Told lines call a → Told lines call b → a ≡ b
+  told_one call (o, h, e) (p, k, d) = e ∙ ap call (one o p h k) ∙ sym d
 
--- A list has at most one verdict.
-pub list_verdict_one : (l : List ℕ) {v w : Verdict} → ListVerdict l v → ListVerdict l w → v ≡ w
-unfolding ListVerdict
-list_verdict_one l = answer_one VerdictOf (λ o p. lines_one l) (λ o. verdict_of_one o)
+  -- A call that fills lent memory has one answer and leaves one content.
+  fill_one :
+      (call : Outcome → Reply) (result : Outcome → List ℕ) (before : List ℕ) {w v : Reply} {x y : List ℕ} →
+      Fills lines call result w before x → Fills lines call result v before y → (w ≡ v) × (x ≡ y)
+  fill_one call result before {w} {v} (o, h, e, m) (p, k, d, n) =
+      let same = one o p h k in
+      let answer : w ≡ v = e ∙ ap call same ∙ sym d in
+      (answer, m ∙ ap₂ (λ a b. filled a (result b) before) answer same ∙ sym n)
 
-module _ {A : Type 0} (call : Outcome → A) where
-  -- Of a byte string, a call that goes by the outcome has at most one answer: demand and fewest firings.
-  pub calls_one : (s : List ℕ) {a b : A} → SheetTold s call a → SheetTold s call b → a ≡ b
-  calls_one s = answer_one (λ o a. a ≡ call o) (λ o p. sheet_one s) (λ o e d. e ∙ sym d)
+  -- So do the C entries: one row of numbers for a verdict, one for a question, one with one final content for lent memory.
+  row_by_one : {x y : List ℕ} → RowBy lines x → RowBy lines y → x ≡ y
+  row_by_one (v, a, e) (w, b, d) = e ∙ ap row_of (verdict_by_one a b) ∙ sym d
 
-  -- So it has of a list.
-  pub list_calls_one : (l : List ℕ) {a b : A} → ListTold l call a → ListTold l call b → a ≡ b
-  list_calls_one l = answer_one (λ o a. a ≡ call o) (λ o p. lines_one l) (λ o e d. e ∙ sym d)
+  says_by_one : (call : Outcome → Reply) {x y : List ℕ} → SaysBy lines call x → SaysBy lines call y → x ≡ y
+  says_by_one call (v, a, e) (w, b, d) = e ∙ ap reply_of (told_one call a b) ∙ sym d
 
--- Lines with one outcome: a call that fills lent memory has one answer and leaves one content.
-fill_one :
-    {lines : Outcome → Type 0} (call : Outcome → Written) (result : Outcome → List ℕ) (before : List ℕ) {w v : Written} {x y : List ℕ} →
-    ((o p : Outcome) → lines o → lines p → o ≡ p) → (o : Outcome) × lines o × (w ≡ call o) × (x ≡ filled w (result o) before) →
-    (o : Outcome) × lines o × (v ≡ call o) × (y ≡ filled v (result o) before) → (w ≡ v) × (x ≡ y)
-fill_one call result before {w} {v} one (o, h, e, m) (p, k, d, n) =
-    let same = one o p h k in
-    let answer : w ≡ v = e ∙ ap call same ∙ sym d in
-    (answer, m ∙ ap₂ (λ a b. filled a (result b) before) answer same ∙ sym n)
+  lends_by_one :
+      (call : Outcome → Reply) (result : Outcome → List ℕ) (before : List ℕ) {r t x y : List ℕ} →
+      LendsBy lines call result r before x → LendsBy lines call result t before y → (r ≡ t) × (x ≡ y)
+  lends_by_one call result before (v, a, e) (w, b, d) =
+      let same = fill_one call result before a b in
+      (e ∙ ap reply_of same.0 ∙ sym d, same.1)
 
-module _ (call : Outcome → Written) (result : Outcome → List ℕ) (before : List ℕ) {w v : Written} {x y : List ℕ} where
-  -- Of a byte string, a call that fills lent memory has at most one answer and one final content.
-  pub fills_one : (s : List ℕ) → SheetFills s call result w before x → SheetFills s call result v before y → (w ≡ v) × (x ≡ y)
-  fills_one s = fill_one call result before (λ o p. sheet_one s)
+-- Of a byte string: at most one verdict, one answer to a question, one answer and one final content of lent memory, and one row of
+-- numbers that a C entry returns.
+module _ (s : List ℕ) where
+  pub verdict_one : {v w : Verdict} → SheetVerdict s v → SheetVerdict s w → v ≡ w
+  verdict_one = verdict_by_one (λ o p. sheet_one s)
 
-  -- So it has of a list.
-  pub list_fills_one : (l : List ℕ) → ListFills l call result w before x → ListFills l call result v before y → (w ≡ v) × (x ≡ y)
-  list_fills_one l = fill_one call result before (λ o p. lines_one l)
+  pub calls_one : {A : Type 0} (call : Outcome → A) {a b : A} → SheetTold s call a → SheetTold s call b → a ≡ b
+  calls_one = told_one (λ o p. sheet_one s)
 
--- So do the C entries: one row of numbers for a verdict, one for a question, one with one final content for lent memory.
-pub row_one : (s : List ℕ) {x y : List ℕ} → SheetRow s x → SheetRow s y → x ≡ y
-row_one s (v, a, e) (w, b, d) = e ∙ ap row_of (verdict_one s a b) ∙ sym d
+  pub fills_one :
+      (call : Outcome → Reply) (result : Outcome → List ℕ) (before : List ℕ) {w v : Reply} {x y : List ℕ} →
+      SheetFills s call result w before x → SheetFills s call result v before y → (w ≡ v) × (x ≡ y)
+  fills_one = fill_one (λ o p. sheet_one s)
 
-pub list_row_one : (l : List ℕ) {x y : List ℕ} → ListRow l x → ListRow l y → x ≡ y
-list_row_one l (v, a, e) (w, b, d) = e ∙ ap row_of (list_verdict_one l a b) ∙ sym d
+  pub row_one : {x y : List ℕ} → SheetRow s x → SheetRow s y → x ≡ y
+  row_one = row_by_one (λ o p. sheet_one s)
 
-pub says_one : (s : List ℕ) (call : Outcome → Told) {x y : List ℕ} → SheetSays s call x → SheetSays s call y → x ≡ y
-says_one s call (v, a, e) (w, b, d) = e ∙ ap told_of (calls_one call s a b) ∙ sym d
+  pub says_one : (call : Outcome → Reply) {x y : List ℕ} → SheetSays s call x → SheetSays s call y → x ≡ y
+  says_one = says_by_one (λ o p. sheet_one s)
 
-pub list_says_one : (l : List ℕ) (call : Outcome → Told) {x y : List ℕ} → ListSays l call x → ListSays l call y → x ≡ y
-list_says_one l call (v, a, e) (w, b, d) = e ∙ ap told_of (list_calls_one call l a b) ∙ sym d
+  pub lends_one :
+      (call : Outcome → Reply) (result : Outcome → List ℕ) (before : List ℕ) {r t x y : List ℕ} →
+      SheetLends s call result r before x → SheetLends s call result t before y → (r ≡ t) × (x ≡ y)
+  lends_one = lends_by_one (λ o p. sheet_one s)
 
-module _ (call : Outcome → Written) (result : Outcome → List ℕ) (before : List ℕ) {r t x y : List ℕ} where
-  pub lends_one : (s : List ℕ) → SheetLends s call result r before x → SheetLends s call result t before y → (r ≡ t) × (x ≡ y)
-  lends_one s (v, a, e) (w, b, d) =
-      let same = fills_one call result before s a b in
-      (e ∙ ap written_of same.0 ∙ sym d, same.1)
+-- The same of an unpacked form.
+module _ (l : List ℕ) where
+  pub list_verdict_one : {v w : Verdict} → ListVerdict l v → ListVerdict l w → v ≡ w
+  list_verdict_one = verdict_by_one (λ o p. lines_one l)
 
-  pub list_lends_one : (l : List ℕ) → ListLends l call result r before x → ListLends l call result t before y → (r ≡ t) × (x ≡ y)
-  list_lends_one l (v, a, e) (w, b, d) =
-      let same = list_fills_one call result before l a b in
-      (e ∙ ap written_of same.0 ∙ sym d, same.1)
+  pub list_calls_one : {A : Type 0} (call : Outcome → A) {a b : A} → ListTold l call a → ListTold l call b → a ≡ b
+  list_calls_one = told_one (λ o p. lines_one l)
+
+  pub list_fills_one :
+      (call : Outcome → Reply) (result : Outcome → List ℕ) (before : List ℕ) {w v : Reply} {x y : List ℕ} →
+      ListFills l call result w before x → ListFills l call result v before y → (w ≡ v) × (x ≡ y)
+  list_fills_one = fill_one (λ o p. lines_one l)
+
+  pub list_row_one : {x y : List ℕ} → ListRow l x → ListRow l y → x ≡ y
+  list_row_one = row_by_one (λ o p. lines_one l)
+
+  pub list_says_one : (call : Outcome → Reply) {x y : List ℕ} → ListSays l call x → ListSays l call y → x ≡ y
+  list_says_one = says_by_one (λ o p. lines_one l)
+
+  pub list_lends_one :
+      (call : Outcome → Reply) (result : Outcome → List ℕ) (before : List ℕ) {r t x y : List ℕ} →
+      ListLends l call result r before x → ListLends l call result t before y → (r ≡ t) × (x ≡ y)
+  list_lends_one = lends_by_one (λ o p. lines_one l)

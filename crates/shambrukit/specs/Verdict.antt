@@ -21,12 +21,16 @@ abbrev pub VerdictOf : Outcome → Verdict → Type 0
 VerdictOf (refused r) v = v ≡ Refused r
 VerdictOf (ready js frame) v = Judgement (works_of js) frame v
 
--- What the judge may say of a byte string, and of an unpacked form.
-unfoldable pub SheetVerdict : List ℕ → Verdict → Type 0
-SheetVerdict s v = (o : Outcome) × sheet_lines s o × VerdictOf o v
+-- What the judge may say where the lines 1 to 12 are `lines`.
+unfoldable pub VerdictBy : (Outcome → Type 0) → Verdict → Type 0
+VerdictBy lines v = (o : Outcome) × lines o × VerdictOf o v
 
-unfoldable pub ListVerdict : List ℕ → Verdict → Type 0
-ListVerdict l v = (o : Outcome) × list_lines l o × VerdictOf o v
+-- Of a byte string, and of an unpacked form.
+abbrev pub SheetVerdict : List ℕ → Verdict → Type 0
+SheetVerdict s = VerdictBy (sheet_lines s)
+
+abbrev pub ListVerdict : List ℕ → Verdict → Type 0
+ListVerdict l = VerdictBy (list_lines l)
 
 -- Answer, place, frame load, frame, length. A refusal returns load, frame and length 0; only 21 has a length.
 abbrev pub row_of : Verdict → List ℕ

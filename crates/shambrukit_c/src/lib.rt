@@ -1,5 +1,6 @@
 // The calls for C, exported (include/shambrukit.h). Each calls the function of its name in `shambrukit::c`, whose promise it
-// states again: a crate is a library or a static library, so the exports stand in a crate of their own.
+// states again for a byte string or for an unpacked form: a crate is a library or a static library, so the exports stand in a
+// crate of their own.
 #![tactic(auto)]
 
 ghost use Rattle.std.specs.Prelude.{length};
@@ -14,35 +15,35 @@ use shambrukit::c::{ResultNumbers, VerdictNumbers};
 pub extern "C" fn shambrukit_judge(sheet: &[u8]) -> VerdictNumbers
     ensures { SheetRow sheet.now (verdict_numbers result) }
 {
-    c::shambrukit_judge(sheet)
+    c::judge(sheet)
 }
 
 #[unsafe(no_mangle)]
 pub extern "C" fn shambrukit_judge_list(numbers: &[u32]) -> VerdictNumbers
     ensures { ListRow numbers.now (verdict_numbers result) }
 {
-    c::shambrukit_judge_list(numbers)
+    c::judge(numbers)
 }
 
 #[unsafe(no_mangle)]
 pub extern "C" fn shambrukit_demand(sheet: &[u8], length: u64) -> ResultNumbers
     ensures { SheetSays sheet.now (λ o. demand_told o length) (result_numbers result) }
 {
-    c::shambrukit_demand(sheet, length)
+    c::demand(sheet, length)
 }
 
 #[unsafe(no_mangle)]
 pub extern "C" fn shambrukit_demand_list(numbers: &[u32], length: u64) -> ResultNumbers
     ensures { ListSays numbers.now (λ o. demand_told o length) (result_numbers result) }
 {
-    c::shambrukit_demand_list(numbers, length)
+    c::demand(numbers, length)
 }
 
 #[unsafe(no_mangle)]
 pub extern "C" fn shambrukit_fewest(sheet: &[u8], graph: u64, actor: u64, k: u64) -> ResultNumbers
     ensures { SheetSays sheet.now (λ o. fewest_told o graph actor k) (result_numbers result) }
 {
-    c::shambrukit_fewest(sheet, graph, actor, k)
+    c::fewest(sheet, graph, actor, k)
 }
 
 #[unsafe(no_mangle)]
@@ -54,14 +55,14 @@ pub extern "C" fn shambrukit_fewest_list(
 ) -> ResultNumbers
     ensures { ListSays numbers.now (λ o. fewest_told o graph actor k) (result_numbers result) }
 {
-    c::shambrukit_fewest_list(numbers, graph, actor, k)
+    c::fewest(numbers, graph, actor, k)
 }
 
 #[unsafe(no_mangle)]
 pub extern "C" fn shambrukit_repetition(sheet: &[u8], graph: u64, out: &mut [u64]) -> ResultNumbers
     ensures { SheetLends sheet.now (λ o. listed repetition_numbers o graph (length out.old)) (λ o. numbers_of repetition_numbers o graph) (result_numbers result) out.old out.new }
 {
-    c::shambrukit_repetition(sheet, graph, out)
+    c::repetition(sheet, graph, out)
 }
 
 #[unsafe(no_mangle)]
@@ -72,14 +73,14 @@ pub extern "C" fn shambrukit_repetition_list(
 ) -> ResultNumbers
     ensures { ListLends numbers.now (λ o. listed repetition_numbers o graph (length out.old)) (λ o. numbers_of repetition_numbers o graph) (result_numbers result) out.old out.new }
 {
-    c::shambrukit_repetition_list(numbers, graph, out)
+    c::repetition(numbers, graph, out)
 }
 
 #[unsafe(no_mangle)]
 pub extern "C" fn shambrukit_skips(sheet: &[u8], graph: u64, out: &mut [u64]) -> ResultNumbers
     ensures { SheetLends sheet.now (λ o. listed skip_numbers o graph (length out.old)) (λ o. numbers_of skip_numbers o graph) (result_numbers result) out.old out.new }
 {
-    c::shambrukit_skips(sheet, graph, out)
+    c::skips(sheet, graph, out)
 }
 
 #[unsafe(no_mangle)]
@@ -90,14 +91,14 @@ pub extern "C" fn shambrukit_skips_list(
 ) -> ResultNumbers
     ensures { ListLends numbers.now (λ o. listed skip_numbers o graph (length out.old)) (λ o. numbers_of skip_numbers o graph) (result_numbers result) out.old out.new }
 {
-    c::shambrukit_skips_list(numbers, graph, out)
+    c::skips(numbers, graph, out)
 }
 
 #[unsafe(no_mangle)]
 pub extern "C" fn shambrukit_tasks(sheet: &[u8], graph: u64, out: &mut [u64]) -> ResultNumbers
     ensures { SheetLends sheet.now (λ o. listed task_list o graph (length out.old)) (λ o. numbers_of task_list o graph) (result_numbers result) out.old out.new }
 {
-    c::shambrukit_tasks(sheet, graph, out)
+    c::tasks(sheet, graph, out)
 }
 
 #[unsafe(no_mangle)]
@@ -108,19 +109,19 @@ pub extern "C" fn shambrukit_tasks_list(
 ) -> ResultNumbers
     ensures { ListLends numbers.now (λ o. listed task_list o graph (length out.old)) (λ o. numbers_of task_list o graph) (result_numbers result) out.old out.new }
 {
-    c::shambrukit_tasks_list(numbers, graph, out)
+    c::tasks(numbers, graph, out)
 }
 
 #[unsafe(no_mangle)]
 pub extern "C" fn shambrukit_unpack(sheet: &[u8], out: &mut [u32]) -> ResultNumbers
     ensures { SheetLends sheet.now (λ o. whole o (length (unpacked sheet.now)) (length out.old)) (λ _. unpacked sheet.now) (result_numbers result) out.old out.new }
 {
-    c::shambrukit_unpack(sheet, out)
+    c::unpack(sheet, out)
 }
 
 #[unsafe(no_mangle)]
 pub extern "C" fn shambrukit_pack(numbers: &[u32], out: &mut [u8]) -> ResultNumbers
     ensures { ListLends numbers.now (λ o. whole o (length (packed numbers.now)) (length out.old)) (λ _. packed numbers.now) (result_numbers result) out.old out.new }
 {
-    c::shambrukit_pack(numbers, out)
+    c::pack(numbers, out)
 }

@@ -7,6 +7,7 @@ use lib.ListN.{length, get_or, get_or-append}
 use lib.Seq.{get_or-append-add}
 use Rattle.units.specs.Bounds.{max_time}
 use Rattle.sheet.specs.Field.{Field}
+use Rattle.sheet.specs.Sizes.{Sizes}
 use Rattle.sheet.specs.Layout.{mk, none, fixed_part, actor_part, channel_part, times, layout, total, in_bytes, in_numbers}
 
 -- The room of fields in two parts is the room of both.
@@ -54,6 +55,11 @@ layout_bytes a c = omega (arith, total_layout in_bytes a c)
 pub layout_numbers : (a c : ℕ) → total in_numbers (layout a c) ≡ 6 + a + 5 * c
 unfolding total fixed_part actor_part channel_part
 layout_numbers a c = omega (arith, total_layout in_numbers a c)
+
+module _ {size : Field → ℕ} {f a c : ℕ} (z : Sizes size f a c) where
+  -- A graph takes what its parts take.
+  pub layout_is : (n m : ℕ) → total size (layout n m) ≡ f + n * a + m * c
+  layout_is n m = total_layout size n m ∙ rw (z.fixed_is n, z.actor_is, z.channel_is n) (omega arith)
 
 -- Fields take a number each.
 pub length_fields : (fs : List Field) → length fs ≡ total in_numbers fs

@@ -1,5 +1,5 @@
 -- 01, The answer table: the refusals, with the number and the place that document 01 gives each.
-use Rattle.std.specs.Prelude.{Bool, true, false, cond, List, ◌++◌, ℕ, leb, drop}
+use Rattle.std.specs.Prelude.{Bool, true, false, cond, List, ◌++◌, ℕ, leb, drop, Result, Ok, Err}
 use Rattle.sheet.specs.declared.Refusal.{Refusal}
 use Rattle.sheet.specs.declared.Refusal.TheVariants.{
   Length,
@@ -18,10 +18,6 @@ use Rattle.sheet.specs.declared.Refusal.TheVariants.{
   Room,
   Number,
 }
-use Rattle.sheet.specs.declared.Answer.{Answer}
-use Rattle.sheet.specs.declared.Answer.TheVariants.{On, No}
-use Rattle.sheet.specs.declared.Written.{Written}
-use Rattle.sheet.specs.declared.Written.TheVariants.{Wrote, Refused}
 
 -- 01, The answer table, column "No."
 abbrev pub number_of : Refusal → ℕ
@@ -59,22 +55,30 @@ place_of Question = 0
 place_of Room = 0
 place_of Number = 0
 
+-- What a part of the table says: nothing is wrong and the lines below decide, or a refusal.
+abbrev pub Answer : Type 0
+Answer = Result (Unit {0}) Refusal
+
+-- What a call says: a number, or a refusal.
+abbrev pub Reply : Type 0
+Reply = Result ℕ Refusal
+
 -- One line of the table: unless what it asks for holds, its refusal; if it holds, the lines below decide.
-abbrev pub unless : Bool → Refusal → Answer → Answer
+abbrev pub unless : {A : Type 0} → Bool → Refusal → Result A Refusal → Result A Refusal
 unless true r below = below
-unless false r below = No r
+unless false r below = Err r
 
 -- One part of the table above another.
-abbrev pub then : Answer → Answer → Answer
-then On below = below
-then (No r) below = No r
+abbrev pub then : {A : Type 0} → Answer → Result A Refusal → Result A Refusal
+then (Ok _) below = below
+then (Err r) below = Err r
 
 -- 01, answer 14, for a result of n numbers or bytes: with room for it they are written and counted.
-abbrev pub written : Answer → ℕ → ℕ → Written
-written On room n = cond (leb n room) (Wrote n) (Refused Room)
-written (No r) room n = Refused r
+abbrev pub written : Answer → ℕ → ℕ → Reply
+written (Ok _) room n = cond (leb n room) (Ok n) (Err Room)
+written (Err r) room n = Err r
 
 -- 01: what lent memory holds in the end. The result takes the first places and the rest stays; a refusal changes nothing.
-abbrev pub filled : Written → List ℕ → List ℕ → List ℕ
-filled (Wrote n) result before = result ++ drop n before
-filled (Refused r) result before = before
+abbrev pub filled : Reply → List ℕ → List ℕ → List ℕ
+filled (Ok n) result before = result ++ drop n before
+filled (Err r) result before = before

@@ -1,12 +1,10 @@
 -- 01, Order: answers 1 to 5 in their order, for both forms.
-use Rattle.std.specs.Prelude.{Bool, ◌&&◌, List, ℕ, zero, suc, leb, eqb, length, get_or, drop}
+use Rattle.std.specs.Prelude.{Bool, ◌&&◌, List, ℕ, zero, suc, leb, eqb, length, get_or, drop, Ok}
 use Rattle.units.specs.Bounds.{max_graphs, max_actors, max_channels}
 use Rattle.units.specs.Within.{between}
-use Rattle.sheet.specs.declared.Answer.{Answer}
-use Rattle.sheet.specs.declared.Answer.TheVariants.{On}
 use Rattle.sheet.specs.declared.Refusal.TheVariants.{Length, Version, Count, Cut, Size}
 use Rattle.sheet.specs.Field.{Field}
-use Rattle.sheet.specs.Answer.{unless, then}
+use Rattle.sheet.specs.Answer.{Answer, unless, then}
 use Rattle.sheet.specs.Layout.{fixed_part, layout, total, in_bytes, in_numbers}
 use Rattle.sheet.specs.Fields.{big_endian}
 
@@ -31,11 +29,11 @@ unfoldable pub graph_check : (Field → ℕ) → ℕ → List ℕ → Answer
 graph_check size k s =
     unless (leb (total size (fixed_part 0)) (length s)) (Cut k)
     (unless (sized s) (Size k)
-    (unless (leb (stretch size s) (length s)) (Cut k) On))
+    (unless (leb (stretch size s) (length s)) (Cut k) (Ok tt)))
 
 -- 01, Order, first walk: n graphs to come, the next one numbered k; after the last of them nothing is left over.
 unfoldable pub first_walk : (Field → ℕ) → ℕ → ℕ → List ℕ → Answer
-first_walk size zero k s = unless (eqb (length s) 0) (Cut k) On
+first_walk size zero k s = unless (eqb (length s) 0) (Cut k) (Ok tt)
 first_walk size (suc n) k s = then (graph_check size k s) (first_walk size n (suc k) (drop (stretch size s) s))
 
 -- 01, answer 3, and the first walk behind it.

@@ -1,11 +1,8 @@
 -- 01, The sheet, byte by byte: from the byte string to the unpacked form and back, and answer 6 over all graphs.
-use Rattle.std.specs.Prelude.{List, [], ◌∷◌, ◌++◌, ℕ, zero, suc, ◌+◌, length, get_or, drop}
+use Rattle.std.specs.Prelude.{List, [], ◌∷◌, ◌++◌, ℕ, zero, suc, ◌+◌, length, get_or, drop, Ok}
 use Rattle.sheet.specs.Field.{Field}
-use Rattle.sheet.specs.declared.Answer.{Answer}
-use Rattle.sheet.specs.declared.Answer.TheVariants.{On}
 use Rattle.sheet.specs.declared.Refusal.TheVariants.{Range}
-use Rattle.sheet.specs.declared.Written.{Written}
-use Rattle.sheet.specs.Answer.{unless, then, written}
+use Rattle.sheet.specs.Answer.{Answer, Reply, unless, then, written}
 use Rattle.sheet.specs.Layout.{layout, in_bytes, in_numbers}
 use Rattle.sheet.specs.Fields.{to_bytes, numbers, bytes, in_range}
 use Rattle.sheet.specs.Check.{actor_count, channel_count, stretch, check_sheet, check_list}
@@ -35,7 +32,7 @@ packed l =
 
 -- 01, answer 6: each of n graphs is in range, the next one numbered k.
 unfoldable pub range_walk : ℕ → ℕ → List ℕ → Answer
-range_walk zero k l = On
+range_walk zero k l = Ok tt
 range_walk (suc n) k l = unless (in_range (layout_of l) l) (Range k) (range_walk n (suc k) (drop (stretch in_numbers l) l))
 
 -- 01, answers 3 to 6 for the unpacked form.
@@ -43,9 +40,9 @@ unfoldable pub check_numbers : List ℕ → Answer
 check_numbers l = then (check_list l) (range_walk (get_or l 0 0) 0 (drop 1 l))
 
 -- Unpacking a byte string into `room` numbers: answers 1 to 5 and 14, and how many numbers there are.
-unfoldable pub unpack_answer : List ℕ → ℕ → Written
+unfoldable pub unpack_answer : List ℕ → ℕ → Reply
 unpack_answer s room = written (check_sheet s) room (length (unpacked s))
 
 -- Packing an unpacked form into `room` bytes: answers 3 to 6 and 14, and how many bytes there are.
-unfoldable pub pack_answer : List ℕ → ℕ → Written
+unfoldable pub pack_answer : List ℕ → ℕ → Reply
 pack_answer l room = written (check_numbers l) room (length (packed l))

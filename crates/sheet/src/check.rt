@@ -2,14 +2,11 @@
 ghost use Rattle.std.specs.Prelude.{◌≡◌, ◌&&◌, ◌+◌, ◌<◌, ◌≤◌, length, drop};
 ghost use Rattle.units.specs.Bounds.{max_actors, max_channels};
 ghost use Rattle.units.specs.Within.{between};
-ghost use Rattle.sheet.specs.Layout.{in_bytes, in_numbers};
 ghost use Rattle.sheet.specs.Fields.{big_endian};
 ghost use Rattle.sheet.specs.Check.{graph_check, first_walk, check_graphs, check_sheet, check_list};
 
-use super::layout::{
-    FIXED, FIXED_BYTES, MAX_ACTORS, MAX_CHANNELS, MAX_GRAPHS, bytes_of, numbers_of,
-};
-use super::{Answer, Refusal};
+use super::Refusal;
+use super::layout::{Form, MAX_ACTORS, MAX_CHANNELS, MAX_GRAPHS};
 
 // 01: numbers are big-endian. Fields of two and of four bytes, at place `at`.
 pub fn two(s: &[u8], at: usize) -> u32
@@ -29,127 +26,70 @@ pub fn four(s: &[u8], at: usize) -> u32
 fn sized(actors: usize, channels: usize) -> bool
     ensures { result ≡ (between 1 max_actors actors && between 0 max_channels channels) }
 {
-    if actors < 1 {
-        return false;
-    }
-    if (MAX_ACTORS as usize) < actors {
-        return false;
-    }
-    channels <= MAX_CHANNELS as usize
+    1 <= actors && actors <= MAX_ACTORS as usize && channels <= MAX_CHANNELS as usize
 }
 
-// The graph numbered k, from the start of its stretch of bytes.
-fn graph_in_bytes(s: &[u8], k: u64) -> Answer
-    ensures { result ≡ graph_check in_bytes k s.now }
+// The graph numbered k, from the start of its stretch.
+fn graph<F: Form>(form: F, k: u64) -> Result<(), Refusal>
+    ensures { result ≡ graph_check F.size k (F.entries form) }
 {
-    if s.len() < FIXED_BYTES {
-        return Answer::No(Refusal::Cut(k));
+    if form.len() < F::room(0, 0) {
+        return Err(Refusal::Cut(k));
     }
-    let actors = s[0] as usize;
-    let channels = s[1] as usize;
+    let actors = form.at(0);
+    let channels = form.at(1);
     if !sized(actors, channels) {
-        return Answer::No(Refusal::Size(k));
+        return Err(Refusal::Size(k));
     }
-    if s.len() < bytes_of(actors, channels) {
-        return Answer::No(Refusal::Cut(k));
+    if form.len() < F::room(actors, channels) {
+        return Err(Refusal::Cut(k));
     }
-    Answer::On
+    Ok(())
 }
 
-// The same from the start of its stretch of numbers.
-fn graph_in_numbers(l: &[u32], k: u64) -> Answer
-    ensures { result ≡ graph_check in_numbers k l.now }
+fn walk<F: Form>(form: F, n: u64) -> Result<(), Refusal>
+    ensures { result ≡ first_walk F.size n 0 (F.entries form) }
 {
-    if l.len() < FIXED {
-        return Answer::No(Refusal::Cut(k));
+    let mut rest = form;
+    for k in 0..n {
+        graph(rest, k)?;
+        rest = rest.from(F::room(rest.at(0), rest.at(1)));
     }
-    let actors = l[0] as usize;
-    let channels = l[1] as usize;
-    if !sized(actors, channels) {
-        return Answer::No(Refusal::Size(k));
+    if 0 < rest.len() {
+        return Err(Refusal::Cut(n));
     }
-    if l.len() < numbers_of(actors, channels) {
-        return Answer::No(Refusal::Cut(k));
-    }
-    Answer::On
+    Ok(())
 }
 
-fn walk_bytes(s: &[u8], n: u64) -> Answer
-    ensures { result ≡ first_walk in_bytes n 0 s.now }
+// The graph count and the graphs.
+fn graphs<F: Form>(form: F, n: u64) -> Result<(), Refusal>
+    ensures { result ≡ check_graphs F.size n (F.entries form) }
 {
-    let mut k = 0;
-    let mut at = 0;
-    while k < n {
-        let graph = graph_in_bytes(&s[at..], k);
-        match graph {
-            Answer::No(r) => return Answer::No(r),
-            Answer::On => {}
-        }
-        at += bytes_of(s[at] as usize, s[at + 1] as usize);
-        k += 1;
+    if n < 1 || MAX_GRAPHS < n {
+        return Err(Refusal::Count);
     }
-    if at < s.len() {
-        return Answer::No(Refusal::Cut(n));
-    }
-    Answer::On
-}
-
-fn walk_numbers(l: &[u32], n: u64) -> Answer
-    ensures { result ≡ first_walk in_numbers n 0 l.now }
-{
-    let mut k = 0;
-    let mut at = 0;
-    while k < n {
-        let graph = graph_in_numbers(&l[at..], k);
-        match graph {
-            Answer::No(r) => return Answer::No(r),
-            Answer::On => {}
-        }
-        at += numbers_of(l[at] as usize, l[at + 1] as usize);
-        k += 1;
-    }
-    if at < l.len() {
-        return Answer::No(Refusal::Cut(n));
-    }
-    Answer::On
+    walk(form, n)
 }
 
 // Answers 1 to 5 for a byte string.
-pub fn sheet(s: &[u8]) -> Answer
+pub fn sheet(s: &[u8]) -> Result<(), Refusal>
     ensures { result ≡ check_sheet s.now }
 {
-    if s.len() < 4 {
-        return Answer::No(Refusal::Length);
-    }
-    if two(s, 0) as usize != s.len() {
-        return Answer::No(Refusal::Length);
+    if s.len() < 4 || two(s, 0) as usize != s.len() {
+        return Err(Refusal::Length);
     }
     if s[2] != 1 {
-        return Answer::No(Refusal::Version);
+        return Err(Refusal::Version);
     }
-    let n = s[3] as u64;
-    if n < 1 {
-        return Answer::No(Refusal::Count);
-    }
-    if MAX_GRAPHS < n {
-        return Answer::No(Refusal::Count);
-    }
-    walk_bytes(&s[4..], n)
+    graphs(&s[4..], s[3] as u64)
 }
 
 // Answers 3 to 5 for the unpacked form.
-pub fn list(l: &[u32]) -> Answer
+pub fn list(l: &[u32]) -> Result<(), Refusal>
     ensures { result ≡ check_list l.now }
 {
-    if l.len() < 1 {
-        return Answer::No(Refusal::Count);
+    if l.is_empty() {
+        return Err(Refusal::Count);
     }
-    let n = l[0] as u64;
-    if n < 1 {
-        return Answer::No(Refusal::Count);
-    }
-    if MAX_GRAPHS < n {
-        return Answer::No(Refusal::Count);
-    }
-    walk_numbers(&l[1..], n)
+    graphs(&l[1..], l[0] as u64)
 }

@@ -4,12 +4,12 @@
 ghost use Rattle.std.specs.Prelude.{◌≡◌};
 ghost use Rattle.sheet.specs.Answer.{number_of, place_of};
 
-pub mod layout; // the room of a graph
+pub mod layout; // the two forms, and the room of a graph in each
 pub mod check; // answers 1 to 5
 pub mod range; // answer 6
 
 // The refusals of document 01, with the graph's number where it gives a place.
-#[derive(Clone, Copy)]
+#[derive(Clone, Copy, PartialEq, Eq)]
 pub enum Refusal {
     Length,
     Version,
@@ -55,35 +55,15 @@ impl Refusal {
         ensures { result ≡ place_of self }
     {
         match self {
-            Refusal::Cut(k) => k,
-            Refusal::Size(k) => k,
-            Refusal::Range(k) => k,
-            Refusal::Reach(k) => k,
-            Refusal::Balance(k) => k,
-            Refusal::NotOnce(k) => k,
-            Refusal::Deadlock(k) => k,
-            Refusal::Restless(k) => k,
-            Refusal::Length => 0,
-            Refusal::Version => 0,
-            Refusal::Count => 0,
-            Refusal::Frame => 0,
-            Refusal::Question => 0,
-            Refusal::Room => 0,
-            Refusal::Number => 0,
+            Refusal::Cut(k)
+            | Refusal::Size(k)
+            | Refusal::Range(k)
+            | Refusal::Reach(k)
+            | Refusal::Balance(k)
+            | Refusal::NotOnce(k)
+            | Refusal::Deadlock(k)
+            | Refusal::Restless(k) => k,
+            _ => 0,
         }
     }
-}
-
-// What a part of the table says: the lines below decide, or a refusal.
-#[derive(Clone, Copy)]
-pub enum Answer {
-    On,
-    No(Refusal),
-}
-
-// What a call that fills lent memory says: how many numbers or bytes it wrote, or a refusal.
-#[derive(Clone, Copy)]
-pub enum Written {
-    Wrote(usize),
-    Refused(Refusal),
 }

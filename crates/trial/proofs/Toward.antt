@@ -1,16 +1,16 @@
 -- 01, Deadlock: the trial run decides. How a run starts, that a visit carries it on, what a pass does, and what the end shows.
 use mathlib.Core.Path.{◌≡◌, refl, sym, ◌∙◌, ap}
-use mathlib.Core.Bool.{Bool, true, false, false≢true, true≢false}
+use mathlib.Core.Bool.{Bool, true, false}
 use mathlib.Core.Logic.{⊎_elim, ◌≢◌}
 use mathlib.Core.List.{List, [], ◌++◌}
 use Prim.Native.Nat.{ℕ, zero, suc, ◌+◌, ◌*◌, ◌-◌, ◌^◌, ◌<◌, ◌≤◌}
-use native.Mathlib.Nat.{le_refl, le_of_eq, mul-le-mul, pos_of_ne-zero, mul-le-mul_right}
+use native.Mathlib.Nat.{le_of_eq, mul-le-mul, pos_of_ne-zero, mul-le-mul_right}
 use native.Mathlib.Numerals.{add-one}
 use native.Mathlib.Omega.{arith}
 use borrow.Author.Tests.{eq-eqb, ne_eqb}
 use borrow.Author.Count.{below_none, below_more}
 use lib.Dec.{eqb}
-use lib.ListN.{length, get_or, set, replicate, length-set}
+use lib.ListN.{length, get_or, set, replicate}
 use lib.Seq.{get_or-set_same, get_or-set_other}
 use Rattle.units.specs.Bounds.{max_repetition}
 use Rattle.sdf.specs.Graph.{Graph, Sound}
@@ -22,7 +22,7 @@ use Rattle.sdf.proofs.Order.{tokens_law, legal_append, after_append, firings_app
 use Rattle.sdf.proofs.Trial.{batch, batch_firings, batch_after, stuck}
 use Rattle.trial.specs.Flat.{vector, Drawn}
 use Rattle.sets.specs.Decides.{Decides}
-use Rattle.trial.specs.Trial.{Greatest, Allows, Restores, Moved, Fireable, Fired, Run, Visitable, Visited, Underway, Started}
+use Rattle.trial.specs.Trial.{Greatest, Allows, Restores, Moved, Fired, Run, Visitable, Visited, Underway, Started}
 use Rattle.trial.proofs.Firing.{removed_all, removed_none, added_all, added_none}
 
 -- A list filled from the front with the values of f, and one entry more.
@@ -33,40 +33,24 @@ filled_more f xs {n} {x} before room same =
     (λ i l. get_or-set_other xs n i x 0 (λ e. omega arith) ∙ before i l)
     (get_or-set_same xs n x 0 room ∙ same)
 
--- The first v actors have all their firings still to come.
-pub record Starting (q left ready : List ℕ) (v : ℕ) (left' ready' : List ℕ) (rest : ℕ) : Type 0 where
-  pub started : Started v q left' ready' rest
-  pub left_length : length left' ≡ length left
-  pub ready_length : length ready' ≡ length ready
-
 -- Before the first actor the sum is 0.
-pub starting_start : {q left ready : List ℕ} {rest : ℕ} → rest ≡ 0 → Starting q left ready 0 left ready rest
+pub started_start : {q left ready : List ℕ} {rest : ℕ} → rest ≡ 0 → Started 0 q left ready rest
 unfolding sum_to
-starting_start none = record {
-  started = record { short = below_none _; woken = below_none _; sum = none };
-  left_length = refl;
-  ready_length = refl;
-}
+started_start none = record { short = below_none _; woken = below_none _; sum = none }
 
 -- One actor more.
-pub starting_turn : {q left ready left' ready' : List ℕ} {v rest next : ℕ} → Starting q left ready v left' ready' rest
-    → v < length left → v < length ready → next ≡ rest + get_or q v 0
-    → Starting q left ready (v + 1) (set left' v (get_or q v 0)) (set ready' v 1) next
+pub started_turn : {q left ready : List ℕ} {v rest next : ℕ} → Started v q left ready rest → v < length left → v < length ready → next ≡ rest + get_or q v 0
+    → Started (v + 1) q (set left v (get_or q v 0)) (set ready v 1) next
 unfolding sum_to
-starting_turn {q} {left' = left'} {ready' = ready'} {v = v} before left_room ready_room more = record {
-  started = record {
-    short = filled_more (vector q) left' before.started.short (omega (arith, before.left_length)) refl;
-    woken = filled_more (λ _. 1) ready' before.started.woken (omega (arith, before.ready_length)) refl;
-    sum = rw add-one (omega (arith, before.started.sum));
-  };
-  left_length = length-set left' v (get_or q v 0) ∙ before.left_length;
-  ready_length = length-set ready' v 1 ∙ before.ready_length;
+started_turn {q} {left} {ready} before left_room ready_room more = record {
+  short = filled_more (vector q) left before.short left_room refl;
+  woken = filled_more (λ _. 1) ready before.woken ready_room refl;
+  sum = rw add-one (omega (arith, before.sum));
 }
 
 -- The sum is at most the bound for each actor.
-pub starting_bound : {q left ready left' ready' : List ℕ} {v rest : ℕ} → Starting q left ready v left' ready' rest
-    → ((w : ℕ) → w < v → get_or q w 0 ≤ max_repetition) → rest ≤ v * max_repetition
-starting_bound {q} {v = v} before bound = omega (arith, before.started.sum, sum_bound (vector q) v max_repetition bound)
+pub started_bound : {q left ready : List ℕ} {v rest : ℕ} → Started v q left ready rest → ((w : ℕ) → w < v → get_or q w 0 ≤ max_repetition) → rest ≤ v * max_repetition
+started_bound {q} {v = v} before bound = omega (arith, before.sum, sum_bound (vector q) v max_repetition bound)
 
 -- Before anything fires, all of q is still to come.
 pub run_start : {g : Graph} {q tokens left ready : List ℕ} {rest : ℕ} → ((c : ℕ) → c < g.channels → get_or tokens c 0 ≡ initial g c)
@@ -162,42 +146,12 @@ module _ {g : Graph} {v k : ℕ} {tokens left ready tokens' left' ready' : List 
     still = still;
   }
 
--- A visit that finds v not ready changes nothing.
-pub visit_none : {g : Graph} {v k : ℕ} {tokens left ready : List ℕ} → k ≡ 0 → get_or ready v 0 ≡ 0 → Visited g v k tokens left ready tokens left ready
-visit_none {v = v} {k} none quiet = record {
-  run = λ q rest run. let same : rest - k ≡ rest = omega arith in rw same run;
-  fewer = omega arith;
-  still = λ _ w before. ⊎_elim (λ e. rw e quiet) before (eq_or_ne w v);
-}
-
 -- Marking v not ready leaves the others as they were.
 unready : {v w : ℕ} (ready : List ℕ) → w ≢ v → get_or (set ready v 0) w 0 ≡ get_or ready w 0
 unready {v} {w} ready n = get_or-set_other ready v w 0 0 n
 
--- What v is short of and the rates are within what an allowance asks.
-pub visit_bounds : {g : Graph} {v short : ℕ} {tokens left ready : List ℕ} → Drawn g → Visitable g tokens left ready → v < g.actors → short ≡ get_or left v 0
-    → (c : ℕ) → c < g.channels → (0 < (g.channel c).consume) × (short * (g.channel c).consume < 2 ^ 64)
-visit_bounds {v = v} {short} drawn able actor all c l = (
-  drawn.sound.consume c l,
-  omega (arith, mul-le-mul {n₁ = short} {n₂ = max_repetition} (omega (arith, able.short v actor)) (drawn.consume c l)),
-)
-
 module _ {g : Graph} {v short k : ℕ} {tokens left ready : List ℕ} (drawn : Drawn g) (able : Visitable g tokens left ready) (actor : v < g.actors)
     (all : short ≡ get_or left v 0) (allowance : Greatest (Allows g.channel g.channels (vector tokens) v) short k) where
-  -- The allowance meets all that firing so often asks.
-  pub visit_fireable : Fireable g.channel g.channels v k tokens (set ready v 0)
-  visit_fireable = record {
-    allows = allowance.holds;
-    restores = able.restores;
-    fits = λ c l. omega (
-      arith,
-      able.held c l,
-      mul-le-mul {n₁ = k} {n₂ = max_repetition} (omega (arith, able.short v actor, allowance.within)) (drawn.produce c l),
-    );
-    tokens_room = able.tokens_room;
-    ready_room = λ c l. rw length-set (omega (arith, drawn.sound.head c l, able.ready_room));
-  }
-
   -- A visit that is allowed nothing leaves v not ready.
   pub visit_still : k ≡ 0 → Visited g v k tokens left ready tokens left (set ready v 0)
   visit_still none =
@@ -254,41 +208,12 @@ run_visitable {g} drawn way = let run = way.run in let runnable = way.runnable i
   ready_room = way.ready_room;
 }
 
--- The lists that a run works in keep their lengths.
-pub record Sized (tokens left ready hints tokens' left' ready' hints' : List ℕ) : Type 0 where
-  pub tokens_length : length tokens' ≡ length tokens
-  pub left_length : length left' ≡ length left
-  pub ready_length : length ready' ≡ length ready
-  pub hints_length : length hints' ≡ length hints
-
--- Lists keep their lengths before anything is done.
-pub sized_start : {tokens left ready hints : List ℕ} → Sized tokens left ready hints tokens left ready hints
-sized_start = record { tokens_length = refl; left_length = refl; ready_length = refl; hints_length = refl }
-
--- Lengths that are kept and then kept again are kept.
-pub sized_again : {tokens left ready hints tokens' left' ready' hints' tokens'' left'' ready'' hints'' : List ℕ} → Sized tokens left ready hints tokens' left' ready' hints'
-    → Sized tokens' left' ready' hints' tokens'' left'' ready'' hints'' → Sized tokens left ready hints tokens'' left'' ready'' hints''
-sized_again first second = record {
-  tokens_length = second.tokens_length ∙ first.tokens_length;
-  left_length = second.left_length ∙ first.left_length;
-  ready_length = second.ready_length ∙ first.ready_length;
-  hints_length = second.hints_length ∙ first.hints_length;
-}
-
 -- Visits that begin with one to v, before the next one, to w: k firings are made, and where these are none nobody but w is ready
 -- who was not.
 pub record Following (g : Graph) (v w k : ℕ) (tokens left ready tokens' left' ready' : List ℕ) : Type 0 where
   pub run : (q : ℕ → ℕ) (rest : ℕ) → Run g q tokens left ready rest → Run g q tokens' left' ready' (rest - k)
   pub fewer : sum_to (vector left') g.actors + k ≡ sum_to (vector left) g.actors
   pub still : k ≡ 0 → (u : ℕ) → (u ≢ v → get_or ready u 0 ≡ 0) → u ≢ w → get_or ready' u 0 ≡ 0
-
--- Before the first visit nothing has changed.
-pub following_start : {g : Graph} {v k : ℕ} {tokens left ready : List ℕ} → k ≡ 0 → Following g v v k tokens left ready tokens left ready
-following_start {k = k} none = record {
-  run = λ q rest run. let same : rest - k ≡ rest = omega arith in rw same run;
-  fewer = omega arith;
-  still = λ _ u before. before;
-}
 
 -- One visit more.
 pub following_visit : {g : Graph} {v w k j n : ℕ} {tokens left ready tokens' left' ready' tokens'' left'' ready'' : List ℕ}
@@ -306,16 +231,17 @@ pub following_again : {g : Graph} {v w k : ℕ} {tokens left ready tokens' left'
 following_again visited = record { run = visited.run; fewer = visited.fewer; still = λ none u quiet _. visited.still none u quiet }
 
 -- Visits leave a run under way.
-pub following_underway : {g : Graph} {v w k : ℕ} {tokens left ready hints tokens' left' ready' hints' : List ℕ} → Underway g tokens left ready
-    → Following g v w k tokens left ready tokens' left' ready' → Sized tokens left ready hints tokens' left' ready' hints' → Underway g tokens' left' ready'
-following_underway way following sized = record {
+pub following_underway : {g : Graph} {v w k : ℕ} {tokens left ready tokens' left' ready' : List ℕ} → Underway g tokens left ready
+    → Following g v w k tokens left ready tokens' left' ready' → length tokens' ≡ length tokens → length left' ≡ length left → length ready' ≡ length ready
+    → Underway g tokens' left' ready'
+following_underway way following same_tokens same_left same_ready = record {
   q = way.q;
   runnable = way.runnable;
   rest = _;
   run = following.run _ _ way.run;
-  tokens_room = omega (arith, way.tokens_room, sized.tokens_length);
-  left_room = omega (arith, way.left_room, sized.left_length);
-  ready_room = omega (arith, way.ready_room, sized.ready_length);
+  tokens_room = omega (arith, way.tokens_room, same_tokens);
+  left_room = omega (arith, way.left_room, same_left);
+  ready_room = omega (arith, way.ready_room, same_ready);
 }
 
 -- How often visits can fire fits.
@@ -346,30 +272,6 @@ pub record Pass (g : Graph) (q : ℕ → ℕ) (tokens left ready : List ℕ) (be
   pub most : rest ≤ before
   pub more : fired ≡ true → rest < before
   pub still : fired ≡ false → (w : ℕ) → w < v → get_or ready w 0 ≡ 0
-
--- A pass begins with nothing fired.
-pub pass_start : {g : Graph} {q : ℕ → ℕ} {tokens left ready : List ℕ} {rest : ℕ} → Run g q tokens left ready rest → Pass g q tokens left ready rest rest false 0
-pass_start run = record { run = run; most = le_refl _; more = λ e. absurd (false≢true e); still = λ _. below_none _ }
-
-module _ {g : Graph} {q : ℕ → ℕ} {tokens left ready tokens' left' ready' : List ℕ} {before rest next v k : ℕ} {fired : Bool}
-    (pass : Pass g q tokens left ready before rest fired v) (visited : Visited g v k tokens left ready tokens' left' ready') (fewer : next ≡ rest - k) where
-  -- A visit that fires.
-  pub pass_fired : {marked : Bool} → k ≢ 0 → marked ≡ true → Pass g q tokens' left' ready' before next marked (v + 1)
-  pass_fired some mark = record {
-    run = rw fewer (visited.run q rest pass.run);
-    most = omega (arith, pass.most);
-    more = λ _. omega (arith, some, visited.fewer, pass.most, pass.run.sum);
-    still = λ e. absurd (true≢false (sym mark ∙ e));
-  }
-
-  -- A visit that fires nothing.
-  pub pass_still : {marked : Bool} → k ≡ 0 → marked ≡ fired → Pass g q tokens' left' ready' before next marked (v + 1)
-  pass_still none mark = record {
-    run = rw fewer (visited.run q rest pass.run);
-    most = omega (arith, pass.most);
-    more = λ e. omega (arith, pass.more (sym mark ∙ e));
-    still = λ e w l. visited.still none w (λ n. pass.still (sym mark ∙ e) w (omega (arith, n)));
-  }
 
 -- A run that has ended: nothing is left to fire, or no actor is ready.
 pub record Over (g : Graph) (q : ℕ → ℕ) (tokens left ready : List ℕ) (rest : ℕ) : Type 0 where

@@ -3,3 +3,5 @@ pub mod Read
 pub mod Links
 pub mod Trial
 pub mod Knot
+pub mod Net
+pub mod Falling

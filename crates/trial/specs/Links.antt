@@ -1,17 +1,20 @@
 -- The channels of a graph in lists, one for each actor at one of their ends: links in one slice. A link is 0 where a list ends,
 -- and otherwise one more than the channel it leads to.
-use Rattle.std.specs.Prelude.{◌≡◌, ◌≢◌, List, ℕ, ◌+◌, ◌*◌, ◌<◌, ◌≤◌, length, get_or}
+use Rattle.std.specs.Prelude.{◌≡◌, ◌≢◌, List, ℕ, ◌+◌, ◌<◌, ◌≤◌, length, get_or}
 use Rattle.trial.specs.Flat.{channel_at}
-
--- The actor at one end of a channel: side 0 is the tail, side 1 the head.
-abbrev pub end_of : List ℕ → ℕ → ℕ → ℕ
-end_of flat side c = get_or flat (5 * c + side) 0
+use Rattle.trial.specs.declared.links.End.{End}
+use Rattle.trial.specs.declared.links.End.TheVariants.{Tail, Head}
 
 abbrev pub tails : List ℕ → ℕ → ℕ
 tails flat c = (channel_at flat c).tail
 
 abbrev pub heads : List ℕ → ℕ → ℕ
 heads flat c = (channel_at flat c).head
+
+-- The actor at one end of each channel.
+abbrev pub end_of : End → List ℕ → ℕ → ℕ
+end_of Tail = tails
+end_of Head = heads
 
 -- Link `at` leads to the last of the channels below `limit` that end at v.
 pub record Chain (end : ℕ → ℕ) (v limit at : ℕ) : Type 0 where

@@ -3,7 +3,7 @@ ghost use Rattle.std.specs.Prelude.{◌≡◌, ◌/◌, ◌<◌, length};
 ghost use Rattle.trial.specs.Flat.{channel_at};
 ghost use Rattle.trial.specs.Read.{seen};
 
-use units::Tokens;
+use units::{Count, Tokens};
 
 // In document 01's order.
 #[derive(Clone, Copy)]

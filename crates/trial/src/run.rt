@@ -1,17 +1,19 @@
 // 01, Deadlock: the trial run. An actor that is visited fires as often as it is short of its number and its channels allow; an
 // actor is visited again only after a channel into it has got tokens. Passes over all actors miss nobody; between two visits of a
 // pass the hints lead straight to the actors that have got tokens.
-ghost use Rattle.std.specs.Prelude.{◌≡◌, ℕ, ◌+◌, ◌*◌, ◌/◌, ◌^◌, ◌<◌, ◌≤◌, length, get_or};
+ghost use Rattle.std.specs.Prelude.{◌≡◌, ℕ, ◌+◌, ◌*◌, ◌/◌, ◌^◌, ◌<◌, ◌≤◌, length, get_or, IfSome};
 ghost use Rattle.units.specs.Bounds.{engine_actors, max_repetition};
 ghost use Rattle.sdf.specs.Order.{removed, Lives};
-ghost use Rattle.trial.specs.Flat.{channel_at, graph_of, vector, Drawn};
+ghost use Rattle.trial.specs.Flat.{channel_at, vector};
+ghost use Rattle.trial.specs.Net.{net_graph, LinkedInto, LinkedOut};
 ghost use Rattle.sets.specs.Decides.{Decides};
-ghost use Rattle.trial.specs.Links.{heads, tails, Linked};
 ghost use Rattle.trial.specs.Read.{seen};
 ghost use Rattle.trial.specs.Trial.{Runnable, Greatest, Lets, Allows, Woken, Fireable, Put, TakenOff, Fired, Visitable, Visited, Underway, Started};
 
+use super::along::Along;
 use super::channel::Channel;
-use units::{Firings, Tokens};
+use super::net::Net;
+use units::{Count, Firings, Tokens};
 
 impl Channel {
     // How often the channel, with so many tokens held, lets its head v fire in a row, at most `most` times.
@@ -23,10 +25,7 @@ impl Channel {
         if held.count() < rate.count() {
             return Firings::of(0);
         }
-        if self.tail == v {
-            return most;
-        }
-        if most.tokens(rate).count() <= held.count() {
+        if self.tail == v || most.tokens(rate).count() <= held.count() {
             return most;
         }
         held.firings(rate)
@@ -38,13 +37,7 @@ impl Channel {
         ensures { Woken (seen self) v held.n ready.old ready.new }
     {
         let head = self.head;
-        if head == v {
-            return;
-        }
-        if held.count() < self.consume.count() {
-            return;
-        }
-        if ready[head] != 0 {
+        if head == v || held.count() < self.consume.count() || ready[head] != 0 {
             return;
         }
         ready[head] = 1;
@@ -57,59 +50,42 @@ fn push(hints: &mut [u64], v: usize)
     requires { 0 < length hints.old }
 {
     let top = hints[0] as usize;
-    if hints.len() - 1 <= top {
-        return;
+    if top < hints.len() - 1 {
+        hints[top + 1] = v as u64;
+        hints[0] = (top + 1) as u64;
     }
-    hints[top + 1] = v as u64;
-    hints[0] = (top + 1) as u64;
 }
 
-// The last hint, which is taken off, or `none`.
-fn pop(hints: &mut [u64], none: usize) -> usize
+// The last hint, which is taken off, if it is an actor.
+fn pop(hints: &mut [u64], actors: usize) -> Option<usize>
     requires { 0 < length hints.old }
-    ensures { result < none → (get_or hints.new 0 0 < get_or hints.old 0 0) × (get_or hints.old 0 0 < length hints.old) }
+    ensures { IfSome result (λ v. (v < actors) × (get_or hints.new 0 0 < get_or hints.old 0 0) × (get_or hints.old 0 0 < length hints.old)) }
 {
     let top = hints[0] as usize;
-    if top == 0 {
-        return none;
-    }
-    if hints.len() <= top {
-        return none;
-    }
-    let v = hints[top] as usize;
-    hints[0] = (top - 1) as u64;
-    v
+    let below = top.checked_sub(1)?;
+    let v = *hints.get(top)? as usize;
+    hints[0] = below as u64;
+    (v < actors).then_some(v)
 }
 
 // How often actor v can fire in a row, at most `short` times.
-fn allowance(
-    actors: usize,
-    channels: &[u32],
-    into: &[u64],
-    tokens: &[u64],
-    v: usize,
-    short: Firings,
-) -> Firings
-    requires { (v < actors) × Linked (heads channels.now) actors (length channels.now / 5) into.now × (length channels.now / 5 ≤ length tokens.now) × ((c : ℕ) → c < length channels.now / 5 → (0 < (channel_at channels.now c).consume) × (short.n * (channel_at channels.now c).consume < 2 ^ 64)) }
-    ensures { Greatest (Allows (channel_at channels.now) (length channels.now / 5) (vector tokens.now) v) short.n result.n }
+fn allowance(net: &Net, into: &[u64], tokens: &[u64], v: usize, short: Firings) -> Firings
+    requires { (v < net.now.actors) × LinkedInto net.now into.now × (length net.now.channels.now / 5 ≤ length tokens.now) × ((c : ℕ) → c < length net.now.channels.now / 5 → (0 < (channel_at net.now.channels.now c).consume) × (short.n * (channel_at net.now.channels.now c).consume < 2 ^ 64)) }
+    ensures { Greatest (Allows (channel_at net.now.channels.now) (length net.now.channels.now / 5) (vector tokens.now) v) short.n result.n }
 {
     let mut k = short;
-    let mut at = into[v];
-    while 0 < at {
+    for c in Along::of(into, net.actors, v) {
         if k.count() == 0 {
             return k;
         }
-        let c = (at - 1) as usize;
-        k = Channel::at(channels, c).times(Tokens::of(tokens[c]), v, k);
-        at = into[actors + c];
+        k = Channel::at(net.channels, c).times(Tokens::of(tokens[c]), v, k);
     }
     k
 }
 
 // The channels out of actor v get what k firings produce.
 fn put(
-    actors: usize,
-    channels: &[u32],
+    net: &Net,
     out: &[u64],
     v: usize,
     k: Firings,
@@ -117,37 +93,30 @@ fn put(
     ready: &mut [u64],
     hints: &mut [u64],
 )
-    requires { (v < actors) × Linked (tails channels.now) actors (length channels.now / 5) out.now × Fireable (channel_at channels.now) (length channels.now / 5) v k.n tokens.old ready.old × (0 < length hints.old) }
-    ensures { Put (channel_at channels.now) (length channels.now / 5) v k.n tokens.old ready.old tokens.new ready.new }
+    requires { (v < net.now.actors) × LinkedOut net.now out.now × Fireable (channel_at net.now.channels.now) (length net.now.channels.now / 5) v k.n tokens.old ready.old × (0 < length hints.old) }
+    ensures { Put (channel_at net.now.channels.now) (length net.now.channels.now / 5) v k.n tokens.old ready.old tokens.new ready.new }
 {
-    let mut at = out[v];
-    while 0 < at {
-        let c = (at - 1) as usize;
-        let e = Channel::at(channels, c);
+    for c in Along::of(out, net.actors, v) {
+        let e = Channel::at(net.channels, c);
         let held = Tokens::of(tokens[c]).plus(k.tokens(e.produce));
         tokens[c] = held.count();
         e.wake(held, v, ready, hints);
-        at = out[actors + c];
     }
 }
 
 // The channels into actor v lose what k firings consume.
-fn take(actors: usize, channels: &[u32], into: &[u64], v: usize, k: Firings, tokens: &mut [u64])
-    requires { (v < actors) × Linked (heads channels.now) actors (length channels.now / 5) into.now × (length channels.now / 5 ≤ length tokens.old) × ((c : ℕ) → c < length channels.now / 5 → k.n * removed (channel_at channels.now c) v ≤ get_or tokens.old c 0) }
-    ensures { (c : ℕ) → c < length channels.now / 5 → TakenOff (channel_at channels.now c) v k.n (get_or tokens.old c 0) (get_or tokens.new c 0) }
+fn take(net: &Net, into: &[u64], v: usize, k: Firings, tokens: &mut [u64])
+    requires { (v < net.now.actors) × LinkedInto net.now into.now × (length net.now.channels.now / 5 ≤ length tokens.old) × ((c : ℕ) → c < length net.now.channels.now / 5 → k.n * removed (channel_at net.now.channels.now c) v ≤ get_or tokens.old c 0) }
+    ensures { (c : ℕ) → c < length net.now.channels.now / 5 → TakenOff (channel_at net.now.channels.now c) v k.n (get_or tokens.old c 0) (get_or tokens.new c 0) }
 {
-    let mut at = into[v];
-    while 0 < at {
-        let c = (at - 1) as usize;
-        tokens[c] -= k.tokens(Channel::at(channels, c).consume).count();
-        at = into[actors + c];
+    for c in Along::of(into, net.actors, v) {
+        tokens[c] -= k.tokens(Channel::at(net.channels, c).consume).count();
     }
 }
 
 // k firings of actor v in a row: they put before they take, since from v to v they put back what they take.
 fn fire(
-    actors: usize,
-    channels: &[u32],
+    net: &Net,
     into: &[u64],
     out: &[u64],
     v: usize,
@@ -156,19 +125,16 @@ fn fire(
     ready: &mut [u64],
     hints: &mut [u64],
 )
-    requires { (v < actors) × Linked (heads channels.now) actors (length channels.now / 5) into.now × Linked (tails channels.now) actors (length channels.now / 5) out.now × Fireable (channel_at channels.now) (length channels.now / 5) v k.n tokens.old ready.old × (0 < length hints.old) }
-    ensures { Fired (channel_at channels.now) (length channels.now / 5) v k.n tokens.old ready.old tokens.new ready.new }
+    requires { (v < net.now.actors) × LinkedInto net.now into.now × LinkedOut net.now out.now × Fireable (channel_at net.now.channels.now) (length net.now.channels.now / 5) v k.n tokens.old ready.old × (0 < length hints.old) }
+    ensures { Fired (channel_at net.now.channels.now) (length net.now.channels.now / 5) v k.n tokens.old ready.old tokens.new ready.new }
 {
-    put(actors, channels, out, v, k, tokens, ready, hints);
-    take(actors, channels, into, v, k, tokens);
+    put(net, out, v, k, tokens, ready, hints);
+    take(net, into, v, k, tokens);
 }
 
 // A visit to actor v. Returns how often it fired. Where it fired nothing the hints are as they were.
 fn visit(
-    actors: usize,
-    input: usize,
-    output: usize,
-    channels: &[u32],
+    net: &Net,
     into: &[u64],
     out: &[u64],
     v: usize,
@@ -177,9 +143,9 @@ fn visit(
     ready: &mut [u64],
     hints: &mut [u64],
 ) -> Firings
-    requires linked { Linked (heads channels.now) actors (length channels.now / 5) into.now × Linked (tails channels.now) actors (length channels.now / 5) out.now }
-    requires drawn { Drawn (graph_of actors input output channels.now) × (v < actors) × Visitable (graph_of actors input output channels.now) tokens.old left.old ready.old × (0 < length hints.old) }
-    ensures visited { Visited (graph_of actors input output channels.now) v result.n tokens.old left.old ready.old tokens.new left.new ready.new }
+    requires linked { LinkedInto net.now into.now × LinkedOut net.now out.now }
+    requires drawn { (v < net.now.actors) × Visitable (net_graph net.now) tokens.old left.old ready.old × (0 < length hints.old) }
+    ensures visited { Visited (net_graph net.now) v result.n tokens.old left.old ready.old tokens.new left.new ready.new }
     ensures hints_unchanged { result.n ≡ 0 → hints.new ≡ hints.old }
 {
     if ready[v] == 0 {
@@ -187,21 +153,18 @@ fn visit(
     }
     ready[v] = 0;
     let short = Firings::of(left[v]);
-    let k = allowance(actors, channels, into, tokens, v, short);
+    let k = allowance(net, into, tokens, v, short);
     if k.count() == 0 {
         return k;
     }
-    fire(actors, channels, into, out, v, k, tokens, ready, hints);
+    fire(net, into, out, v, k, tokens, ready, hints);
     left[v] = short.less(k).count();
     k
 }
 
 // A visit to actor v, and visits along the hints, the last one first. Returns how often actors fired together.
 fn follow(
-    actors: usize,
-    input: usize,
-    output: usize,
-    channels: &[u32],
+    net: &Net,
     into: &[u64],
     out: &[u64],
     v: usize,
@@ -210,33 +173,28 @@ fn follow(
     ready: &mut [u64],
     hints: &mut [u64],
 ) -> Firings
-    requires linked { Linked (heads channels.now) actors (length channels.now / 5) into.now × Linked (tails channels.now) actors (length channels.now / 5) out.now }
-    requires drawn { Drawn (graph_of actors input output channels.now) × (v < actors) × Underway (graph_of actors input output channels.now) tokens.old left.old ready.old × (0 < length hints.old) }
-    ensures { Visited (graph_of actors input output channels.now) v result.n tokens.old left.old ready.old tokens.new left.new ready.new }
+    requires linked { LinkedInto net.now into.now × LinkedOut net.now out.now }
+    requires drawn { (v < net.now.actors) × Underway (net_graph net.now) tokens.old left.old ready.old × (0 < length hints.old) }
+    ensures { Visited (net_graph net.now) v result.n tokens.old left.old ready.old tokens.new left.new ready.new }
 {
     let mut sum = Firings::of(0);
     let mut w = v;
     loop {
-        let k = visit(
-            actors, input, output, channels, into, out, w, tokens, left, ready, hints,
-        );
+        let k = visit(net, into, out, w, tokens, left, ready, hints);
         sum = sum.plus(k);
-        w = pop(hints, actors);
-        if actors <= w {
+        let Some(next) = pop(hints, net.actors) else {
             return sum;
-        }
+        };
+        w = next;
     }
 }
 
-fn initial(channels: &[u32], tokens: &mut [u64])
-    requires { length channels.now / 5 ≤ length tokens.old }
-    ensures { (c : ℕ) → c < length channels.now / 5 → get_or tokens.new c 0 ≡ (channel_at channels.now c).tokens }
+fn initial(net: &Net, tokens: &mut [u64])
+    requires { length net.now.channels.now / 5 ≤ length tokens.old }
+    ensures { (c : ℕ) → c < length net.now.channels.now / 5 → get_or tokens.new c 0 ≡ (channel_at net.now.channels.now c).tokens }
 {
-    let m = channels.len() / 5;
-    let mut c = 0;
-    while c < m {
-        tokens[c] = Channel::at(channels, c).tokens.count();
-        c += 1;
+    for c in 0..net.channel_count() {
+        tokens[c] = Channel::at(net.channels, c).tokens.count();
     }
 }
 
@@ -246,12 +204,10 @@ fn start(actors: usize, q: &[u64], left: &mut [u64], ready: &mut [u64]) -> Firin
     ensures { Started actors q.now left.new ready.new result.n }
 {
     let mut rest = Firings::of(0);
-    let mut v = 0;
-    while v < actors {
+    for v in 0..actors {
         left[v] = q[v];
         ready[v] = 1;
         rest = rest.plus(Firings::of(q[v]));
-        v += 1;
     }
     rest
 }
@@ -259,10 +215,7 @@ fn start(actors: usize, q: &[u64], left: &mut [u64], ready: &mut [u64]) -> Firin
 // 01, Deadlock: whether some legal order fires every actor exactly q times. `into` and `out` are the lists of channels by head and by tail;
 // `tokens`, `left`, `ready` and `hints` are lent to work in.
 pub fn lives(
-    actors: usize,
-    input: usize,
-    output: usize,
-    channels: &[u32],
+    net: &Net,
     q: &[u64],
     tokens: &mut [u64],
     left: &mut [u64],
@@ -271,21 +224,18 @@ pub fn lives(
     out: &[u64],
     hints: &mut [u64],
 ) -> bool
-    requires drawn { Drawn (graph_of actors input output channels.now) × Runnable (graph_of actors input output channels.now) q.now }
-    requires actors_in_bounds { (actors ≤ length q.now) × (length channels.now / 5 ≤ length tokens.old) × (actors ≤ length left.old) × (actors ≤ length ready.old) }
-    requires linked { Linked (heads channels.now) actors (length channels.now / 5) into.now × Linked (tails channels.now) actors (length channels.now / 5) out.now × (0 < length hints.old) }
-    ensures { Decides result (Lives (graph_of actors input output channels.now) (vector q.now)) }
+    requires drawn { Runnable (net_graph net.now) q.now }
+    requires actors_in_bounds { (net.now.actors ≤ length q.now) × (length net.now.channels.now / 5 ≤ length tokens.old) × (net.now.actors ≤ length left.old) × (net.now.actors ≤ length ready.old) }
+    requires linked { LinkedInto net.now into.now × LinkedOut net.now out.now × (0 < length hints.old) }
+    ensures { Decides result (Lives (net_graph net.now) (vector q.now)) }
 {
     hints[0] = 0;
-    initial(channels, tokens);
-    let mut rest = start(actors, q, left, ready);
+    initial(net, tokens);
+    let mut rest = start(net.actors, q, left, ready);
     'run: loop {
         let mut fired = false;
-        let mut v = 0;
-        while v < actors {
-            let k = follow(
-                actors, input, output, channels, into, out, v, tokens, left, ready, hints,
-            );
+        for v in 0..net.actors {
+            let k = follow(net, into, out, v, tokens, left, ready, hints);
             if k.count() != 0 {
                 fired = true;
             }
@@ -293,7 +243,6 @@ pub fn lives(
             if rest.count() == 0 {
                 break 'run;
             }
-            v += 1;
         }
         if !fired {
             break 'run;

@@ -5,10 +5,11 @@ use mathlib.Core.Logic.{◌⊎◌, inl, inr}
 use mathlib.Core.Bool.{Bool, true, false, cond, ◌&&◌}
 use borrow.Author.Tests.{leb-true, leb-false}
 use lib.Dec.{leb}
-use Rattle.units.specs.Within.{between, ticks_within, firings_within, tokens_within}
-use Rattle.units.specs.declared.SomeTicks.{SomeTicks, TheVariants.Within as TicksIn, TheVariants.Outside as TicksOut}
-use Rattle.units.specs.declared.SomeFirings.{SomeFirings, TheVariants.Within as FiringsIn, TheVariants.Outside as FiringsOut}
-use Rattle.units.specs.declared.SomeTokens.{SomeTokens, TheVariants.Within as TokensIn, TheVariants.Outside as TokensOut}
+use Rattle.std.specs.Prelude.{Option, Some, None}
+use Rattle.units.specs.Within.{between, within, ticks_within, firings_within, tokens_within}
+use Rattle.units.specs.declared.Ticks.{Ticks}
+use Rattle.units.specs.declared.Firings.{Firings}
+use Rattle.units.specs.declared.Tokens.{Tokens}
 
 abbrev pub InBounds : ℕ → ℕ → ℕ → Type 0
 InBounds low high n = (low ≤ n) × (n ≤ high)
@@ -25,29 +26,21 @@ picked P low high n {a} {b} inside outside = at (leb low n) refl (leb n high) re
     at true e false f = outside (inr (leb-false _ _ f))
     at false e q f = outside (inl (leb-false _ _ e))
 
-abbrev pub TicksTold : ℕ → ℕ → ℕ → SomeTicks → Type 0
-TicksTold low high n (TicksIn t) = InBounds low high n × (t.n ≡ n)
-TicksTold low high n TicksOut = OutOfBounds low high n
+-- Where the answer holds a count, the number is within the bounds and is that of the count; else it is out of bounds.
+abbrev pub Told : {C : Type 0} → (C → ℕ) → ℕ → ℕ → ℕ → Option C → Type 0
+Told number low high n (Some c) = InBounds low high n × (number c ≡ n)
+Told number low high n None = OutOfBounds low high n
 
--- Where the answer holds ticks, the number is within the bounds and is their count; else it is out of bounds.
-pub ticks_told : (low high n : ℕ) {r s : SomeTicks} → r ≡ ticks_within low high n → r ≡ s → TicksTold low high n s
-ticks_told low high n p q =
-    subst (TicksTold low high n) (sym p ∙ q) (picked (TicksTold low high n) low high n (λ h. (h, refl)) (λ h. h))
+-- So it is of every checked constructor.
+pub told : {C : Type 0} (number : C → ℕ) (counted : ℕ → C) → ((n : ℕ) → number (counted n) ≡ n) → (low high n : ℕ) {r s : Option C} → r ≡ within counted low high n → r ≡ s → Told number low high n s
+told number counted same low high n p q =
+    subst (Told number low high n) (sym p ∙ q) (picked (Told number low high n) low high n (λ h. (h, same n)) (λ h. h))
 
-abbrev pub FiringsTold : ℕ → ℕ → ℕ → SomeFirings → Type 0
-FiringsTold low high n (FiringsIn t) = InBounds low high n × (t.n ≡ n)
-FiringsTold low high n FiringsOut = OutOfBounds low high n
+pub ticks_told : (low high n : ℕ) {r s : Option Ticks} → r ≡ ticks_within low high n → r ≡ s → Told (λ (t : Ticks). t.n) low high n s
+ticks_told = told (λ t. t.n) (λ n. record { n = n }) (λ n. refl)
 
--- Where the answer holds firings, the number is within the bounds and is their count; else it is out of bounds.
-pub firings_told : (low high n : ℕ) {r s : SomeFirings} → r ≡ firings_within low high n → r ≡ s → FiringsTold low high n s
-firings_told low high n p q =
-    subst (FiringsTold low high n) (sym p ∙ q) (picked (FiringsTold low high n) low high n (λ h. (h, refl)) (λ h. h))
+pub firings_told : (low high n : ℕ) {r s : Option Firings} → r ≡ firings_within low high n → r ≡ s → Told (λ (k : Firings). k.n) low high n s
+firings_told = told (λ k. k.n) (λ n. record { n = n }) (λ n. refl)
 
-abbrev pub TokensTold : ℕ → ℕ → ℕ → SomeTokens → Type 0
-TokensTold low high n (TokensIn t) = InBounds low high n × (t.n ≡ n)
-TokensTold low high n TokensOut = OutOfBounds low high n
-
--- Where the answer holds tokens, the number is within the bounds and is their count; else it is out of bounds.
-pub tokens_told : (low high n : ℕ) {r s : SomeTokens} → r ≡ tokens_within low high n → r ≡ s → TokensTold low high n s
-tokens_told low high n p q =
-    subst (TokensTold low high n) (sym p ∙ q) (picked (TokensTold low high n) low high n (λ h. (h, refl)) (λ h. h))
+pub tokens_told : (low high n : ℕ) {r s : Option Tokens} → r ≡ tokens_within low high n → r ≡ s → Told (λ (m : Tokens). m.n) low high n s
+tokens_told = told (λ m. m.n) (λ n. record { n = n }) (λ n. refl)

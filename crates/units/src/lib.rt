@@ -2,47 +2,122 @@
 // with the count that it bounds.
 #![tactic(auto)]
 
-ghost use Rattle.std.specs.Prelude.{◌≡◌, ◌+◌, ◌-◌, ◌*◌, ◌/◌, ◌^◌, ◌<◌};
+ghost use Rattle.std.specs.Prelude.{◌≡◌, refl, ℕ, ◌+◌, ◌-◌, ◌*◌, ◌/◌, ◌^◌, ◌<◌};
 ghost use Rattle.units.specs.Bounds.{max_ticks, max_time, max_repetition, max_outputs, max_rate, max_tokens};
-ghost use Rattle.units.specs.Within.{between, ticks_within, firings_within, tokens_within};
-
-#[derive(Clone, Copy)]
-pub struct Ticks {
-    n: u64,
-}
-
-#[derive(Clone, Copy)]
-pub struct Firings {
-    n: u64,
-}
-
-#[derive(Clone, Copy)]
-pub struct Tokens {
-    n: u64,
-}
-
-#[derive(Clone, Copy)]
-pub enum SomeTicks {
-    Within(Ticks),
-    Outside,
-}
-
-#[derive(Clone, Copy)]
-pub enum SomeFirings {
-    Within(Firings),
-    Outside,
-}
-
-#[derive(Clone, Copy)]
-pub enum SomeTokens {
-    Within(Tokens),
-    Outside,
-}
+ghost use Rattle.units.specs.Within.{between, within, ticks_within, firings_within, tokens_within};
 
 fn between(low: u64, high: u64, n: u64) -> bool
     ensures { result ≡ between low high n }
 {
     low <= n && n <= high
+}
+
+// What the three have in common: a number, and the count of that number.
+pub trait Count: Copy {
+    ghost number: { Self → ℕ };
+
+    ghost counted: { ℕ → Self };
+
+    fn of(n: u64) -> Self
+        ensures { result ≡ counted n };
+
+    fn count(self) -> u64
+        ensures { result ≡ number self };
+
+    ghost same: { (n : ℕ) → number (counted n) ≡ n };
+
+    final fn plus(self, other: Self) -> Self
+        requires { number self + number other < 2 ^ 64 }
+        ensures { number result ≡ number self + number other }
+    {
+        Self::of(self.count() + other.count())
+    }
+}
+
+// The count of n, if n is from low to high.
+fn checked<C: Count>(low: u64, high: u64, n: u64) -> Option<C>
+    ensures { result ≡ within C.counted low high n }
+{
+    if between(low, high, n) {
+        Some(C::of(n))
+    } else {
+        None
+    }
+}
+
+#[derive(Clone, Copy, PartialEq, Eq, PartialOrd, Ord)]
+pub struct Ticks {
+    n: u64,
+}
+
+#[derive(Clone, Copy, PartialEq, Eq, PartialOrd, Ord)]
+pub struct Firings {
+    n: u64,
+}
+
+#[derive(Clone, Copy, PartialEq, Eq, PartialOrd, Ord)]
+pub struct Tokens {
+    n: u64,
+}
+
+impl Count for Ticks {
+    ghost number = { λ t. t.n };
+
+    ghost counted = { λ n. record { n = n } };
+
+    ghost same = { λ n. refl };
+
+    fn of(n: u64) -> Self
+        ensures { result.n ≡ n }
+    {
+        Self { n }
+    }
+
+    fn count(self) -> u64
+        ensures { result ≡ self.n }
+    {
+        self.n
+    }
+}
+
+impl Count for Firings {
+    ghost number = { λ k. k.n };
+
+    ghost counted = { λ n. record { n = n } };
+
+    ghost same = { λ n. refl };
+
+    fn of(n: u64) -> Self
+        ensures { result.n ≡ n }
+    {
+        Self { n }
+    }
+
+    fn count(self) -> u64
+        ensures { result ≡ self.n }
+    {
+        self.n
+    }
+}
+
+impl Count for Tokens {
+    ghost number = { λ m. m.n };
+
+    ghost counted = { λ n. record { n = n } };
+
+    ghost same = { λ n. refl };
+
+    fn of(n: u64) -> Self
+        ensures { result.n ≡ n }
+    {
+        Self { n }
+    }
+
+    fn count(self) -> u64
+        ensures { result ≡ self.n }
+    {
+        self.n
+    }
 }
 
 impl Ticks {
@@ -51,56 +126,25 @@ impl Ticks {
     // 01, Bounds: worst-case time.
     pub const MAX_TIME: u64 = 100_000;
 
-    pub fn of(n: u64) -> Self
-        ensures { result.n ≡ n }
-    {
-        Self { n }
-    }
-
-    pub fn count(self) -> u64
-        ensures { result ≡ self.n }
-    {
-        self.n
-    }
-
-    fn within(low: u64, high: u64, n: u64) -> SomeTicks
-        ensures { result ≡ ticks_within low high n }
-    {
-        if between(low, high, n) {
-            SomeTicks::Within(Ticks { n })
-        } else {
-            SomeTicks::Outside
-        }
-    }
-
     // A period or a deadline.
-    pub fn span(n: u64) -> SomeTicks
+    pub fn span(n: u64) -> Option<Self>
         ensures { result ≡ ticks_within 1 max_ticks n }
     {
-        Self::within(1, Self::MAX, n)
+        checked(1, Self::MAX, n)
     }
 
     // A frame, or the length in a question.
-    pub fn length(n: u64) -> SomeTicks
+    pub fn length(n: u64) -> Option<Self>
         ensures { result ≡ ticks_within 0 max_ticks n }
     {
-        Self::within(0, Self::MAX, n)
+        checked(0, Self::MAX, n)
     }
 
     // A worst-case time.
-    pub fn time(n: u64) -> SomeTicks
+    pub fn time(n: u64) -> Option<Self>
         ensures { result ≡ ticks_within 0 max_time n }
     {
-        Self::within(0, Self::MAX_TIME, n)
-    }
-
-    pub fn plus(self, other: Ticks) -> Ticks
-        requires { self.n + other.n < 2 ^ 64 }
-        ensures { result.n ≡ self.n + other.n }
-    {
-        Ticks {
-            n: self.n + other.n,
-        }
+        checked(0, Self::MAX_TIME, n)
     }
 
     // What so many firings of this time each take.
@@ -118,58 +162,24 @@ impl Firings {
     // 01, Bounds: K in a question.
     pub const MAX_OUTPUTS: u64 = 10_000_000;
 
-    pub fn of(n: u64) -> Self
-        ensures { result.n ≡ n }
-    {
-        Self { n }
-    }
-
-    pub fn count(self) -> u64
-        ensures { result ≡ self.n }
-    {
-        self.n
-    }
-
-    fn within(low: u64, high: u64, n: u64) -> SomeFirings
-        ensures { result ≡ firings_within low high n }
-    {
-        if between(low, high, n) {
-            SomeFirings::Within(Firings { n })
-        } else {
-            SomeFirings::Outside
-        }
-    }
-
-    pub fn repetition(n: u64) -> SomeFirings
+    pub fn repetition(n: u64) -> Option<Self>
         ensures { result ≡ firings_within 1 max_repetition n }
     {
-        Self::within(1, Self::MAX_REPETITION, n)
+        checked(1, Self::MAX_REPETITION, n)
     }
 
-    pub fn outputs(n: u64) -> SomeFirings
+    pub fn outputs(n: u64) -> Option<Self>
         ensures { result ≡ firings_within 0 max_outputs n }
     {
-        Self::within(0, Self::MAX_OUTPUTS, n)
-    }
-
-    pub fn plus(self, other: Firings) -> Firings
-        requires { self.n + other.n < 2 ^ 64 }
-        ensures { result.n ≡ self.n + other.n }
-    {
-        Firings {
-            n: self.n + other.n,
-        }
+        checked(0, Self::MAX_OUTPUTS, n)
     }
 
     // 01, Fewest firings: 0 where the difference is negative.
     pub fn less(self, other: Firings) -> Firings
         ensures { result.n ≡ self.n - other.n }
     {
-        if self.n < other.n {
-            return Firings { n: 0 };
-        }
         Firings {
-            n: self.n - other.n,
+            n: self.n.saturating_sub(other.n),
         }
     }
 
@@ -195,47 +205,16 @@ impl Tokens {
     // 01, Bounds: initial tokens.
     pub const MAX_INITIAL: u64 = 65_535;
 
-    pub fn of(n: u64) -> Self
-        ensures { result.n ≡ n }
-    {
-        Self { n }
-    }
-
-    pub fn count(self) -> u64
-        ensures { result ≡ self.n }
-    {
-        self.n
-    }
-
-    fn within(low: u64, high: u64, n: u64) -> SomeTokens
-        ensures { result ≡ tokens_within low high n }
-    {
-        if between(low, high, n) {
-            SomeTokens::Within(Tokens { n })
-        } else {
-            SomeTokens::Outside
-        }
-    }
-
-    pub fn rate(n: u64) -> SomeTokens
+    pub fn rate(n: u64) -> Option<Self>
         ensures { result ≡ tokens_within 1 max_rate n }
     {
-        Self::within(1, Self::MAX_RATE, n)
+        checked(1, Self::MAX_RATE, n)
     }
 
-    pub fn initial(n: u64) -> SomeTokens
+    pub fn initial(n: u64) -> Option<Self>
         ensures { result ≡ tokens_within 0 max_tokens n }
     {
-        Self::within(0, Self::MAX_INITIAL, n)
-    }
-
-    pub fn plus(self, other: Tokens) -> Tokens
-        requires { self.n + other.n < 2 ^ 64 }
-        ensures { result.n ≡ self.n + other.n }
-    {
-        Tokens {
-            n: self.n + other.n,
-        }
+        checked(0, Self::MAX_INITIAL, n)
     }
 
     // The firings at this rate that these tokens allow: rounded down, as skips are.

@@ -1,11 +1,12 @@
 -- `core_of`. The invariant: a core; it is smaller after each turn.
 use Rattle.sets.specs.Sets.{Below}
-use Rattle.trial.specs.Flat.{graph_of, vector}
+use Rattle.trial.specs.Flat.{vector}
+use Rattle.trial.specs.Net.{net_graph}
 use Rattle.trial.specs.Knot.{Core}
 use Rattle.knot.proofs.core_of.Given as goal
 
 abbrev pub invariant-loop-core : goal.invariant-loop-core
-invariant-loop-core l = Core (graph_of l.actors l.input l.output l.channels) (vector l.q) l.core × Below l.core l.actors
+invariant-loop-core l = Core (net_graph l.net) (vector l.q) l.core × Below l.core l.net.actors
 
 abbrev pub decreases-loop-core : goal.decreases-loop-core
 decreases-loop-core l = l.core

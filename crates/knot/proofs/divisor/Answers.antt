@@ -1,12 +1,7 @@
 -- `divisor` finds a number that divides both. The invariant: what divides the two numbers at hand divides a and b.
-use native.Mathlib.Nat.{mod-lt}
 use native.Mathlib.Omega.{arith}
-use Rattle.knot.proofs.Keeping.{dividing_start, dividing_turn, dividing_end}
+use Rattle.knot.proofs.Keeping.{dividing_turn, dividing_end}
 use Rattle.knot.proofs.divisor.Goals as goal
-
-pub loop-y-smaller : goal.loop-y-smaller
-loop-y-smaller c =
-    mod-lt c.loop-y.x (omega arith)
 
 pub loop-y-preserved : goal.loop-y-preserved
 loop-y-preserved c =
@@ -15,7 +10,3 @@ loop-y-preserved c =
 pub returns : goal.returns
 returns c =
     dividing_end c.loop-y.invariant (omega arith)
-
-pub loop-y-init : goal.loop-y-init
-loop-y-init c =
-    dividing_start c.requires

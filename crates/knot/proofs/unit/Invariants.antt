@@ -3,8 +3,5 @@ use Rattle.trial.specs.Flat.{vector}
 use Rattle.knot.proofs.Keeping.{Uniting}
 use Rattle.knot.proofs.unit.Given as goal
 
-abbrev pub invariant-loop-todo : goal.invariant-loop-todo
-invariant-loop-todo l = Uniting (vector l.q) l.core l.todo l.d
-
-abbrev pub decreases-loop-todo : goal.decreases-loop-todo
-decreases-loop-todo l = l.todo
+abbrev pub invariant-loop-v : goal.invariant-loop-v
+invariant-loop-v l = Uniting (vector l.q) l.core l.v-iterator.rest l.d

@@ -3,8 +3,5 @@ use Rattle.trial.specs.Flat.{vector}
 use Rattle.knot.proofs.Knots.{Wanting}
 use Rattle.knot.proofs.wanted.Given as goal
 
-abbrev pub invariant-loop-todo : goal.invariant-loop-todo
-invariant-loop-todo l = Wanting (vector l.awaits) l.left l.all l.todo
-
-abbrev pub decreases-loop-todo : goal.decreases-loop-todo
-decreases-loop-todo l = l.todo
+abbrev pub invariant-loop-v : goal.invariant-loop-v
+invariant-loop-v l = Wanting (vector l.awaits) l.left l.all l.v-iterator.rest

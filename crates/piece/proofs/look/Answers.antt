@@ -1,8 +1,10 @@
--- `piece::look` meets its contract. The loop's invariant: the walk is at graph i, with the demand of those passed.
+-- `piece::look` meets its contract. The loop's invariant: the demand of the graphs passed.
 use borrow.Author.Rules.{rules}
-use mathlib.Core.Path.{◌∙◌, refl}
+use mathlib.Core.Path.{◌∙◌, refl, ap}
+use native.Mathlib.Omega.{arith}
 use Rattle.sdf.specs.Sum.{sum_to}
-use Rattle.demand.proofs.Costs.{graph, graphs_turn, demand_added, demand_whole}
+use Rattle.edf.specs.Demand.{demand}
+use Rattle.demand.proofs.Costs.{demand_added}
 use Rattle.piece.proofs.look.Goals as goal
 
 pub loop-i-init : goal.loop-i-init
@@ -10,22 +12,16 @@ unfolding sum_to
 loop-i-init c =
     search rules
 
-pub graph_look-requires : goal.graph_look-requires
-graph_look-requires c =
-    let l = c.loop-i.invariant in (l.0.lent, graph l.0 c.loop-i-test.true, l.0.ticks, l.2)
-
 pub plus-sum-requires : goal.plus-sum-requires
 plus-sum-requires c =
-    let l = c.loop-i.invariant in
-    (demand_added l.0 c.loop-i-test.true l.1 refl c.graph_look.ensures.0).fits
+    (demand_added c.args.rows.now.lent c.requires.0 (search rules) c.loop-i.invariant.0 refl c.graph_look.ensures.0).fits
 
 pub loop-i-preserved : goal.loop-i-preserved
 loop-i-preserved c =
-    let l = c.loop-i.invariant in
-    let m = c.loop-i-test.true in
-    let g = c.graph_look.ensures in
-    (graphs_turn l.0 m, c.plus-sum.ensures ∙ (demand_added l.0 m l.1 refl g.0).sum, g.1, search rules)
+    let a = demand_added c.args.rows.now.lent c.requires.0 (search rules) c.loop-i.invariant.0 refl c.graph_look.ensures.0 in
+    (c.plus-sum.ensures ∙ a.sum, c.graph_look.ensures.1)
 
 pub returns : goal.returns
+unfolding demand
 returns c =
-    let l = c.loop-i.invariant in (demand_whole l.0 c.loop-i-test.false l.1, l.2)
+    (c.loop-i.invariant.0 ∙ ap (sum_to _) (omega arith), c.loop-i.invariant.1)

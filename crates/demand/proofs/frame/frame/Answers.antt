@@ -1,31 +1,15 @@
 -- `frame::frame` meets its contract. The loop's invariant: `so_far` is the frame of the periods passed.
-use borrow.Author.Rules.{rules}
-use Rattle.demand.proofs.Multiples.{frames_start, frames_turn, frames_outside, frames_whole}
+use mathlib.Core.Path.{refl}
+use Rattle.demand.proofs.Multiples.{frames_turn, frames_outside, frames_whole}
 use Rattle.demand.proofs.frame.frame.Goals as goal
 
-pub loop-i-init : goal.loop-i-init
-loop-i-init c =
-    frames_start c.requires c.of-so_far.ensures
+pub returns-in_err-so_far : goal.returns-in_err-so_far
+returns-in_err-so_far c =
+    rw c.from_residual.ensures (frames_outside c.loop-head.invariant c.loop-head-test.true refl c.in_err-so_far.ensures)
 
-pub common-next-requires : goal.common-next-requires
-common-next-requires c =
-    let g = c.loop-i.invariant in
-    let p = g.periods _ c.loop-i-test.true in
-    let f = g.frame.common.positive in
-    search rules
-
-pub returns-in-Outside : goal.returns-in-Outside
-returns-in-Outside c =
-    frames_outside c.loop-i.invariant
-    c.loop-i-test.true c.of.ensures
-    c.in-Outside.ensures
-
-pub loop-i-preserved : goal.loop-i-preserved
-loop-i-preserved c =
-    frames_turn c.loop-i.invariant
-    c.loop-i-test.true c.of.ensures
-    c.in-Within.ensures
+pub loop-head-preserved : goal.loop-head-preserved
+loop-head-preserved c =
+    frames_turn c.loop-head.invariant c.loop-head-test.true refl c.in_ok-so_far.ensures
 
 pub returns : goal.returns
-returns c =
-    frames_whole c.loop-i.invariant c.loop-i-test.false
+returns c = frames_whole c.loop-head.invariant c.loop-head-test.false

@@ -1,14 +1,9 @@
--- `frame::frame_load` meets its contract. The loop's invariant: the walk is at graph i, with the load of those passed.
+-- `frame::frame_load` meets its contract. The loop's invariant: the load of the graphs passed.
 use mathlib.Core.Path.{◌≡◌}
-use Prim.Native.Nat.{◌-◌}
 use Rattle.sdf.specs.Sum.{sum_to}
-use Rattle.demand.specs.Lent.{works_of, Weighed}
-use Rattle.demand.proofs.Costs.{Graphs, graph_load}
+use Rattle.demand.specs.Rows.{works_in}
+use Rattle.demand.proofs.Costs.{graph_load}
 use Rattle.demand.proofs.frame.frame_load.Given as goal
 
 abbrev pub invariant-loop-i : goal.invariant-loop-i
-invariant-loop-i l = Graphs l.heads l.times l.q l.s l.room l.frame.n l.n l.i ×
-    (l.sum.n ≡ sum_to (graph_load (works_of l.heads l.times l.q l.s l.room) l.frame.n) l.i) × Weighed (works_of l.heads l.times l.q l.s l.room) l.weight
-
-abbrev pub decreases-loop-i : goal.decreases-loop-i
-decreases-loop-i l = l.n - l.i
+invariant-loop-i l = l.sum.n ≡ sum_to (graph_load (works_in l.rows) l.frame.n) l.i

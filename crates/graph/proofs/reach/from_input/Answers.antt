@@ -1,11 +1,12 @@
--- `graph::reach::from_input` meets its contract: those that are met along the channels are those that the input reaches.
+-- `from_input` meets its contract: those that are met along the channels are those that the input reaches.
 use Rattle.graph.proofs.Reaching.{only_below, ready_heads, from_decides}
 use Rattle.graph.proofs.reach.from_input.Goals as goal
 
 pub spread-requires : goal.spread-requires
 spread-requires c =
-    ready_heads c.requires.0 c.requires.1 c.only.result (only_below c.args.actors c.only.ensures c.requires.0.sound.input)
+    let n = c.args.net.now in
+    ready_heads n.drawn c.requires c.only.result (only_below n.actors c.only.ensures n.drawn.sound.input)
 
 pub returns : goal.returns
 returns c =
-    from_decides c.requires.0 c.requires.1 c.covers.result c.only.ensures c.spread.ensures c.covers.ensures
+    from_decides c.args.net.now.drawn c.requires c.covers.result c.only.ensures c.spread.ensures c.covers.ensures

@@ -1,4 +1,4 @@
--- `graph::skip::allowed` meets its contract.
+-- `allowed` meets its contract.
 use Rattle.sdf.specs.Skip.{allowed}
 use Rattle.graph.proofs.skip.allowed.Goals as goal
 

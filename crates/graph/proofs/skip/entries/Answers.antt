@@ -1,17 +1,15 @@
--- `graph::skip::entries` meets its contract. The invariant: who is below v and not in `set` has all its tails in `zero`.
-use borrow.Author.Rules.{rules}
+-- `entries` meets its contract. The invariant: who is below v and not in `set` has all its tails in `zero`.
 use Rattle.graph.proofs.Lowering.{entering_start, entering_turn, entering_end}
 use Rattle.graph.proofs.skip.entries.Goals as goal
 
 pub loop-v-init : goal.loop-v-init
 loop-v-init c =
-    (search rules, entering_start)
+    entering_start
 
 pub loop-v-preserved : goal.loop-v-preserved
 loop-v-preserved c =
-    (search rules, entering_turn c.minus.result c.loop-v.invariant.1 c.minus.ensures.0 c.with-set.ensures)
+    entering_turn c.minus.result c.loop-v.invariant c.minus.ensures.0 c.with-set.ensures
 
 pub returns : goal.returns
 returns c =
-    let p = c.requires in
-    entering_end p.0 p.1 c.loop-v.invariant.0 c.loop-v-test.false c.loop-v.invariant.1 c.common.ensures.0
+    entering_end c.args.net.now.drawn c.requires c.loop-v.auto.v-end c.loop-v-test.false c.loop-v.invariant c.common.ensures.0

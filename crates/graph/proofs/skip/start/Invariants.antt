@@ -1,12 +1,8 @@
--- `graph::skip::start` meets its contract.
-use Prim.Native.Nat.{◌-◌, ◌≤◌}
+-- `start` fills the vector actor by actor.
+use Prim.Native.Nat.{ℕ, ◌<◌}
 use Rattle.trial.specs.Flat.{vector}
-use Rattle.sets.proofs.Vectors.{Filled}
 use Rattle.graph.proofs.Lowering.{High}
 use Rattle.graph.proofs.skip.start.Given as goal
 
 abbrev pub invariant-loop-v : goal.invariant-loop-v
-invariant-loop-v l = (l.v ≤ l.actors) × Filled (High l.actors l.zero (vector l.q)) l.v l.initial.s l.s
-
-abbrev pub decreases-loop-v : goal.decreases-loop-v
-decreases-loop-v l = l.actors - l.v
+invariant-loop-v l = (v : ℕ) → v < l.v → High l.actors l.zero (vector l.q) v (vector l.skip-items v)

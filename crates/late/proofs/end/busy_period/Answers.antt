@@ -1,12 +1,14 @@
 -- `end::busy_period` meets its contract.
-use mathlib.Core.Path.{◌∙◌}
+use mathlib.Core.Path.{◌∙◌, sym}
 use Rattle.late.proofs.Busy.{counted_none, counted_whole}
 use Rattle.late.proofs.end.busy_period.Goals as goal
 
-pub returns-then-weight-i-eq0 : goal.returns-then-weight-i-eq0
-returns-then-weight-i-eq0 c =
-    c.of.ensures ∙ counted_none _ c.if-weight-i-eq0.true
+pub returns-then-count-eq0 : goal.returns-then-count-eq0
+returns-then-count-eq0 c =
+    let weight = c.requires.1.weight c.args.i c.requires.0 in
+    c.of.ensures ∙ counted_none _ (sym weight ∙ sym c.count.ensures ∙ c.if-count-eq0.true)
 
 pub returns : goal.returns
 returns c =
-    c.of-2.ensures ∙ counted_whole _ _ c.if-weight-i-eq0.false
+    let weight = c.requires.1.weight c.args.i c.requires.0 in
+    counted_whole _ _ (λ z. c.if-count-eq0.false (c.count.ensures ∙ weight ∙ z))

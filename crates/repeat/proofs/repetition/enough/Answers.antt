@@ -8,6 +8,6 @@ pub returns-then-e : goal.returns-then-e
 returns-then-e c =
     λ q e. c.count.ensures ∙ enough_self (seen c.args.e) q c.if-e.true
 
-pub returns : goal.returns
-returns c =
+pub returns-else-e : goal.returns-else-e
+returns-else-e c =
     λ q e. e ∙ enough_other (seen c.args.e) q c.if-e.false

@@ -1,27 +1,14 @@
--- `range::channels`: one channel after the other.
-use lib.ListN.{length-take, length-drop}
-use native.Mathlib.Omega.{arith}
-use Rattle.sheet.proofs.Parts.{sizes_numbers}
-use Rattle.sheet.proofs.Ranges.{ranging_start, ranging_no, ranging_turn, ranging_end}
+-- `range::channels`: `all` over the chunks of five numbers.
+use Rattle.std.proofs.Common.{rules}
+use lib.Dec.{lit<}
+use Rattle.sheet.specs.Layout.{channel_part}
+use Rattle.sheet.specs.Sizes.{sizes_numbers}
+use Rattle.sheet.proofs.Ranges.{chunks_all}
 use Rattle.sheet.proofs.range.channels.Goals as goal
-
-pub returns-then-not-channel : goal.returns-then-not-channel
-returns-then-not-channel c =
-    ranging_no c.loop-k.invariant c.loop-k-test.true c.channel.ensures c.if-not-channel.true
-
-pub loop-k-preserved : goal.loop-k-preserved
-loop-k-preserved c =
-    ranging_turn c.loop-k.invariant c.loop-k-test.true c.channel.ensures
-    c.if-not-channel.false (omega (arith, sizes_numbers.channel_is c.args.actors))
-
-pub loop-k-init : goal.loop-k-init
-loop-k-init c =
-    ranging_start _ _ _
-
-pub channel-requires : goal.channel-requires
-channel-requires c =
-    (c.requires.0, simp (length-take, length-drop) (omega arith))
 
 pub returns : goal.returns
 returns c =
-    ranging_end c.loop-k.invariant c.loop-k-test.false
+    let run = c.all.ensures.runs in
+    let from = c.chunks_exact.ensures in
+    let chunks = rw (run.1, from.size, from.rest) at (from.runs run.0 run.0.seen) in
+    chunks_all (channel_part c.args.actors) c.args.l.now (lit< tt) (sizes_numbers.channel_is c.args.actors) run.0 (chunks (lit< tt)) (λ x b q h. search rules) c.all.result run.2

@@ -1,86 +1,54 @@
 -- `range::graph`: the fixed part, the worst-case times, the channels.
-use mathlib.Core.Path.{sym, ◌∙◌}
-use lib.ListN.{length-take, length-drop}
+use mathlib.Core.Path.{refl, sym, ◌∙◌}
 use native.Mathlib.Omega.{arith}
-use Rattle.sheet.proofs.Parts.{sizes_numbers, Fitting, graph_fits}
-use Rattle.sheet.proofs.Ranges.{graph_fixed_no, graph_actors_no, graph_channels_are}
+use Rattle.sheet.proofs.Ranges.{stretch_numbers, GraphFits, graph_fits, graph_fixed_no, graph_actors_no, graph_channels_are}
+use Rattle.sheet.proofs.range.graph.Goals.{then-fixed, else-fixed}
 use Rattle.sheet.proofs.range.graph.Goals as goal
-
-pub returns-then-not-fixed : goal.returns-then-not-fixed
-returns-then-not-fixed c =
-    graph_fixed_no c.args.l.now (sym c.fixed.ensures ∙ c.if-not-fixed.true)
-
-pub returns-then-not-times : goal.returns-then-not-times
-returns-then-not-times c =
-    graph_actors_no c.args.l.now (sym c.fixed.ensures ∙ c.if-not-fixed.false) (sym c.times.ensures ∙ c.if-not-times.true)
-
-pub channels-requires : goal.channels-requires
-channels-requires c =
-    let facts : let l = c.args.l.now in Fitting 6 1 5 6 1 5 l l = graph_fits sizes_numbers sizes_numbers _ _ (c.requires.0, c.requires.1, c.requires.1) in
-    let h = facts in (omega arith, simp (length-take, length-drop) (omega arith))
-
-pub returns : goal.returns
-returns c =
-    c.channels.ensures
-    ∙ graph_channels_are c.args.l.now (sym c.fixed.ensures ∙ c.if-not-fixed.false)
-    (sym c.times.ensures ∙ c.if-not-times.false)
-
-pub fixed-requires : goal.fixed-requires
-fixed-requires c =
-    let facts : let l = c.args.l.now in Fitting 6 1 5 6 1 5 l l = graph_fits sizes_numbers sizes_numbers _ _ (c.requires.0, c.requires.1, c.requires.1) in
-    (c.requires.0, omega (arith, facts))
 
 pub bounds-l-0 : goal.bounds-l-0
 bounds-l-0 c =
-    let facts : let l = c.args.l.now in Fitting 6 1 5 6 1 5 l l = graph_fits sizes_numbers sizes_numbers _ _ (c.requires.0, c.requires.1, c.requires.1) in
+    let facts : GraphFits c.args.l.now = graph_fits _ c.requires in
     omega (arith, facts)
 
-pub overflow_cast-n : goal.overflow_cast-n
-overflow_cast-n c =
-    let facts : let l = c.args.l.now in Fitting 6 1 5 6 1 5 l l = graph_fits sizes_numbers sizes_numbers _ _ (c.requires.0, c.requires.1, c.requires.1) in
-    omega (arith, facts)
+pub fixed-requires : goal.fixed-requires
+fixed-requires c =
+    let facts : GraphFits c.args.l.now = graph_fits _ c.requires in
+    (c.requires.0, omega (arith, facts))
 
-pub slice_bounds-times-count : goal.slice_bounds-times-count
-slice_bounds-times-count c =
-    let facts : let l = c.args.l.now in Fitting 6 1 5 6 1 5 l l = graph_fits sizes_numbers sizes_numbers _ _ (c.requires.0, c.requires.1, c.requires.1) in
-    omega (arith, facts)
-
-pub slice_bounds-times-start : goal.slice_bounds-times-start
-slice_bounds-times-start c =
-    let facts : let l = c.args.l.now in Fitting 6 1 5 6 1 5 l l = graph_fits sizes_numbers sizes_numbers _ _ (c.requires.0, c.requires.1, c.requires.1) in
-    omega (arith, facts)
-
-pub times-requires : goal.times-requires
-times-requires c =
-    let facts : let l = c.args.l.now in Fitting 6 1 5 6 1 5 l l = graph_fits sizes_numbers sizes_numbers _ _ (c.requires.0, c.requires.1, c.requires.1) in
-    simp (length-take, length-drop) (omega (arith, facts))
-
-pub overflow_add-at : goal.overflow_add-at
-overflow_add-at c =
-    let facts : let l = c.args.l.now in Fitting 6 1 5 6 1 5 l l = graph_fits sizes_numbers sizes_numbers _ _ (c.requires.0, c.requires.1, c.requires.1) in
-    omega (arith, facts)
-
-pub offset_bounds-l-at : goal.offset_bounds-l-at
-offset_bounds-l-at c =
-    let facts : let l = c.args.l.now in Fitting 6 1 5 6 1 5 l l = graph_fits sizes_numbers sizes_numbers _ _ (c.requires.0, c.requires.1, c.requires.1) in
+pub slice_bounds-times-end : goal.slice_bounds-times-end
+slice_bounds-times-end c =
+    let facts : GraphFits c.args.l.now = graph_fits _ c.requires in
     omega (arith, facts)
 
 pub slice_bounds-channels-count : goal.slice_bounds-channels-count
 slice_bounds-channels-count c =
-    let facts : let l = c.args.l.now in Fitting 6 1 5 6 1 5 l l = graph_fits sizes_numbers sizes_numbers _ _ (c.requires.0, c.requires.1, c.requires.1) in
-    omega (arith, facts)
+    omega (arith, stretch_numbers c.args.l.now)
 
 pub slice_bounds-channels-start : goal.slice_bounds-channels-start
 slice_bounds-channels-start c =
-    let facts : let l = c.args.l.now in Fitting 6 1 5 6 1 5 l l = graph_fits sizes_numbers sizes_numbers _ _ (c.requires.0, c.requires.1, c.requires.1) in
+    omega (arith, stretch_numbers c.args.l.now)
+
+pub channels-requires : goal.channels-requires
+channels-requires c =
+    let facts : GraphFits c.args.l.now = graph_fits _ c.requires in
     omega (arith, facts)
 
-pub bounds-l-1 : goal.bounds-l-1
-bounds-l-1 c =
-    let facts : let l = c.args.l.now in Fitting 6 1 5 6 1 5 l l = graph_fits sizes_numbers sizes_numbers _ _ (c.requires.0, c.requires.1, c.requires.1) in
-    omega (arith, facts)
+pub returns-then-times : goal.returns-then-times
+returns-then-times c =
+    let facts : GraphFits c.args.l.now = graph_fits _ c.requires in
+    elim c.if-fixed.branch [
+      | then-fixed w ↦
+          c.channels.ensures
+          ∙ graph_channels_are c.args.l.now c.fixed.ensures (omega arith) (omega (arith, facts)) w.times.ensures w.if-fixed.true (sym w.value-is ∙ c.if-times.true) refl c.stretch.ensures (omega arith)
+      | else-fixed w ↦ cc
+    ]
 
-pub overflow_cast-l : goal.overflow_cast-l
-overflow_cast-l c =
-    let facts : let l = c.args.l.now in Fitting 6 1 5 6 1 5 l l = graph_fits sizes_numbers sizes_numbers _ _ (c.requires.0, c.requires.1, c.requires.1) in
-    omega (arith, facts)
+pub returns-else-times : goal.returns-else-times
+returns-else-times c =
+    let facts : GraphFits c.args.l.now = graph_fits _ c.requires in
+    elim c.if-fixed.branch [
+      | then-fixed w ↦
+          c.if-times.false
+          ∙ graph_actors_no c.args.l.now c.fixed.ensures (omega arith) (omega (arith, facts)) w.times.ensures w.if-fixed.true (sym w.value-is ∙ c.if-times.false)
+      | else-fixed w ↦ c.if-times.false ∙ graph_fixed_no c.args.l.now c.fixed.ensures w.if-fixed.false
+    ]

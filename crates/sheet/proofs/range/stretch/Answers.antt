@@ -8,7 +8,7 @@ use Rattle.sheet.proofs.range.stretch.Goals as goal
 pub returns : goal.returns
 unfolding stretch
 returns c =
-    c.numbers_of.ensures
+    c.room.ensures
 
 pub bounds-l-0 : goal.bounds-l-0
 bounds-l-0 c =
@@ -18,6 +18,6 @@ pub bounds-l-1 : goal.bounds-l-1
 bounds-l-1 c =
     omega (arith, stretch_numbers c.args.l.now)
 
-pub numbers_of-requires : goal.numbers_of-requires
-numbers_of-requires c =
+pub room-requires : goal.room-requires
+room-requires c =
     let z = sized_gives _ c.requires.0 in (z.actors, z.channels)

@@ -1,12 +1,8 @@
 -- `fire` puts, which leaves enough to take.
 use borrow.Author.Rules.{rules}
-use Rattle.trial.proofs.Firing.{put_enough, put_taken}
+use Rattle.trial.proofs.Firing.{put_enough}
 use Rattle.trial.proofs.run.fire.Goals as goal
 
 pub take-requires : goal.take-requires
 take-requires c =
     (c.requires.0, c.requires.1, search rules, put_enough c.put.ensures c.requires.3)
-
-pub returns : goal.returns
-returns c =
-    put_taken c.put.ensures c.take.ensures

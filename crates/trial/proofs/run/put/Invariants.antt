@@ -6,8 +6,6 @@ use Rattle.trial.specs.Flat.{channel_at}
 use Rattle.trial.proofs.Firing.{Putting}
 use Rattle.trial.proofs.run.put.Given as goal
 
-abbrev pub invariant-loop-at : goal.invariant-loop-at
-invariant-loop-at l = Putting (channel_at l.channels) (length l.channels / 5) l.v l.k.n l.at l.initial.tokens l.initial.ready l.tokens l.ready × (length l.hints ≡ length l.initial.hints)
-
-abbrev pub decreases-loop-at : goal.decreases-loop-at
-decreases-loop-at l = l.at
+abbrev pub invariant-loop-c : goal.invariant-loop-c
+invariant-loop-c l = (l.c-iterator.links.now ≡ l.out) × (l.c-iterator.actors ≡ l.net.actors)
+    × Putting (channel_at l.net.channels.now) (length l.net.channels.now / 5) l.v l.k.n l.c-iterator.at l.initial.tokens l.initial.ready l.tokens l.ready

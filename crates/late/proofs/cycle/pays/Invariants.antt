@@ -1,9 +1,0 @@
--- `cycle::pays` meets its contract.
-use Prim.Native.Nat.{◌-◌, ◌≤◌}
-use Rattle.late.proofs.cycle.pays.Given as goal
-
-abbrev pub invariant-loop-i : goal.invariant-loop-i
-invariant-loop-i l = l.i ≤ l.n
-
-abbrev pub decreases-loop-i : goal.decreases-loop-i
-decreases-loop-i l = l.n - l.i
