@@ -1,5 +1,5 @@
--- What the engine of demand is handed: each graph's period, deadline and actor count, and for each graph a row of `room` actors, of
--- which it has the first.
+-- What the engine of demand is handed: each graph's period, deadline and actor count, and for each graph a row of `room` places. Its
+-- actors stand in the first of them.
 use Rattle.std.specs.Prelude.{◌≡◌, List, ℕ, ◌+◌, ◌*◌, ◌<◌, ◌≤◌, length, get_or}
 use Rattle.units.specs.Bounds.{engine_actors}
 use Rattle.units.specs.declared.Ticks.{Ticks}

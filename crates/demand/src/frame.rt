@@ -59,23 +59,31 @@ pub fn weigh(rows: &Rows, weight: &mut [Ticks])
     }
 }
 
+// The graphs with their weights, the time of an iteration of each.
+#[derive(Drop)]
+pub struct Weighted<'a> {
+    pub rows: &'a Rows<'a>,
+    pub weight: &'a [Ticks],
+    pub ghost weighed: { Weighed (works_in rows.now) weight.now },
+}
+
 // What graph i adds to the frame load.
-fn graph_load(rows: &Rows, weight: &[Ticks], i: usize, frame: Ticks) -> Ticks
-    requires { (i < length rows.now.heads.now) × (frame.n ≤ max_ticks) × Weighed (works_in rows.now) weight.now }
-    ensures { result.n ≡ frame.n / (work_in rows.now i).period * iteration (work_in rows.now i) }
+fn graph_load(weighted: &Weighted, i: usize, frame: Ticks) -> Ticks
+    requires { (i < length weighted.now.rows.now.heads.now) × (frame.n ≤ max_ticks) }
+    ensures { result.n ≡ frame.n / (work_in weighted.now.rows.now i).period * iteration (work_in weighted.now.rows.now i) }
 {
-    let iterations = Firings::of(frame.count() / rows.heads[i].period.count());
-    weight[i].times(iterations)
+    let iterations = Firings::of(frame.count() / weighted.rows.heads[i].period.count());
+    weighted.weight[i].times(iterations)
 }
 
 // 01, Frame load.
-pub fn frame_load(rows: &Rows, weight: &[Ticks], frame: Ticks) -> Ticks
-    requires { (frame.n ≤ max_ticks) × Weighed (works_in rows.now) weight.now }
-    ensures { result.n ≡ load (works_in rows.now) frame.n }
+pub fn frame_load(weighted: &Weighted, frame: Ticks) -> Ticks
+    requires { frame.n ≤ max_ticks }
+    ensures { result.n ≡ load (works_in weighted.now.rows.now) frame.n }
 {
     let mut sum = Ticks::of(0);
-    for i in 0..rows.graphs() {
-        sum = sum.plus(graph_load(rows, weight, i, frame));
+    for i in 0..weighted.rows.graphs() {
+        sum = sum.plus(graph_load(weighted, i, frame));
     }
     sum
 }

@@ -22,13 +22,14 @@ use Rattle.trial.specs.Links.{Chain}
 use Rattle.trial.proofs.Chains.{Walked, walked_start, walked_turn}
 use Rattle.trial.proofs.Ends.{Ends}
 use Rattle.sets.specs.Decides.{Decides}
-use Rattle.sets.specs.Sets.{has, word, Below, Covers, Put}
+use Rattle.sets.specs.Sets.{has, Below, Covers, Put}
 use Rattle.sets.proofs.Bits.{has_none, has_small, has_bit, has_same, put_less}
 use Rattle.sets.proofs.Decided.{decides_same, decides_less}
 use Rattle.sets.proofs.Vectors.{vector_set}
 use Rattle.repeat.specs.Repetition.{Repeats}
 use Rattle.graph.specs.Skip.{max_skip, Highest, Falling, Meets, Watched, Entries, Lowered}
-use Rattle.repeat.specs.Words.{Words, Unskipped}
+use Rattle.repeat.specs.declared.draw.Neighbours.{Neighbours}
+use Rattle.repeat.specs.Words.{tails_of, Words, Unskipped}
 
 -- What the first vector holds at v.
 abbrev pub High : (actors zeros : ℕ) → (ℕ → ℕ) → ℕ → ℕ → Type 0
@@ -161,18 +162,18 @@ module _ {g : Graph} {n c tail head : ℕ} (ends : Ends g n c tail head) {zeros 
           }
 
 -- Actors below n, among them every one with a tail outside the set at 0.
-pub record Entering (words : List ℕ) (zeros n set : ℕ) : Type 0 where
+pub record Entering (neighbours : List Neighbours) (zeros n set : ℕ) : Type 0 where
   pub below : Below set n
-  pub inside : (h : ℕ) → h < n → has set h ≡ 0 → (t : ℕ) → has (word words 1 h) t ≡ 1 → has zeros t ≡ 1
+  pub inside : (h : ℕ) → h < n → has set h ≡ 0 → (t : ℕ) → has (tails_of neighbours h) t ≡ 1 → has zeros t ≡ 1
 
 -- None is below 0.
-pub entering_start : {words : List ℕ} {zeros : ℕ} → Entering words zeros 0 0
+pub entering_start : {neighbours : List Neighbours} {zeros : ℕ} → Entering neighbours zeros 0 0
 entering_start = record { below = λ v o. absurd (omega (arith, has_none v)); inside = λ h l. absurd (omega arith) }
 
 -- One actor more.
-pub entering_turn : {words : List ℕ} {zeros n set new : ℕ} (left : ℕ) → Entering words zeros n set → ((t : ℕ) → has left t ≡ has (word words 1 n) t - has zeros t)
-    → Put set n (max (has set n) (cond (not (eqb left 0)) 1 0)) new → Entering words zeros (n + 1) new
-entering_turn {words} {zeros} {n} {set} {new} left p minus put = record {
+pub entering_turn : {neighbours : List Neighbours} {zeros n set new : ℕ} (left : ℕ) → Entering neighbours zeros n set → ((t : ℕ) → has left t ≡ has (tails_of neighbours n) t - has zeros t)
+    → Put set n (max (has set n) (cond (not (eqb left 0)) 1 0)) new → Entering neighbours zeros (n + 1) new
+entering_turn {neighbours} {zeros} {n} {set} {new} left p minus put = record {
   below = λ v o. ⊎_elim (λ e. omega arith) (λ d. omega (arith, p.below v (sym (put.there v d) ∙ o))) (eq_or_ne v n);
   inside = λ h l z t o. ⊎_elim
       (λ (e : h ≡ n). empty (eqb left 0) refl (omega (arith, ap (has new) e, put.here)) t (rw e at o))
@@ -180,14 +181,14 @@ entering_turn {words} {zeros} {n} {set} {new} left p minus put = record {
       (eq_or_ne h n);
 }
   where
-    empty : (b : Bool) → eqb left 0 ≡ b → cond (not (eqb left 0)) 1 0 < 1 → (t : ℕ) → has (word words 1 n) t ≡ 1 → has zeros t ≡ 1
+    empty : (b : Bool) → eqb left 0 ≡ b → cond (not (eqb left 0)) 1 0 < 1 → (t : ℕ) → has (tails_of neighbours n) t ≡ 1 → has zeros t ≡ 1
     empty true e z t o = omega (arith, minus t, ap (λ (x : ℕ). has x t) (eqb-true left 0 e), has_none t, has_small zeros t)
     empty false e z t o = absurd (omega (arith, ap {B = ℕ} (λ (b : Bool). cond (not b) 1 0) e))
 
 -- All are looked at: those found that are in the set at 0.
-pub entering_end : {g : Graph} {words : List ℕ} {zeros n set r : ℕ} → Drawn g → Words g words → n ≤ g.actors → g.actors ≤ n → Entering words zeros n set
+pub entering_end : {g : Graph} {neighbours : List Neighbours} {zeros n set r : ℕ} → Drawn g → Words g neighbours → n ≤ g.actors → g.actors ≤ n → Entering neighbours zeros n set
     → ((v : ℕ) → has r v ≡ min (has set v) (has zeros v)) → Entries g zeros r
-entering_end {g} {words} {zeros} {n} {set} {r} drawn drawing most all p common = record {
+entering_end {g} {neighbours} {zeros} {n} {set} {r} drawn drawing most all p common = record {
   actors = λ v o. omega (arith, p.below v (omega (arith, common v, has_small set v, has_small zeros v)));
   inside = λ d l o z. let h = (g.channel d).head in
       p.inside h (omega (arith, drawn.sound.head d l)) (omega (arith, common h)) (g.channel d).tail (drawing.tails.holds d l refl);

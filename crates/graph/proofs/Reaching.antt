@@ -1,12 +1,11 @@
--- Who reaches whom, by the words: what is met along them from a set is what the channels lead to.
+-- Who reaches whom, by the neighbours: what is met along them from a set is what the channels lead to.
 use mathlib.Core.Path.{◌≡◌, refl, sym, ap, ◌∙◌, subst}
 use mathlib.Core.Bool.{Bool, true, false}
 use mathlib.Core.Logic.{⊎_elim, ◌↔◌}
 use mathlib.Core.List.{List, [], ◌∷◌}
-use Prim.Native.Nat.{ℕ, ◌+◌, ◌*◌, ◌/◌, ◌<◌, ◌≤◌, max}
+use Prim.Native.Nat.{ℕ, ◌+◌, ◌*◌, ◌<◌, ◌≤◌, max}
 use native.Mathlib.Nat.{div-eq_of_lt}
 use native.Mathlib.Omega.{arith}
-use lib.ListN.{length}
 use borrow.Author.Tests.{ltb-true, ltb-false}
 use Rattle.sdf.specs.Graph.{Graph, Along, Reaches, Reached}
 use Rattle.sdf.specs.Order.{initial, Enabled, AtRest}
@@ -14,12 +13,13 @@ use Rattle.sdf.specs.Skip.{allowed, Skippable}
 use Rattle.sdf.proofs.Numbers.{eq_or_ne}
 use Rattle.sdf.proofs.Reach.{reach_closed, reach_step, reach_back}
 use Rattle.sets.specs.Decides.{Decides}
-use Rattle.sets.specs.Sets.{has, Covers, Below, Put, word, Gathers, Trail, Spread}
+use Rattle.sets.specs.Sets.{has, Covers, Below, Put, Gathers, Trail, Spread}
 use Rattle.sets.proofs.Bits.{has_none, has_small, has_bit}
 use Rattle.sets.proofs.Gather.{gather_below}
 use Rattle.sets.proofs.Decided.{decides_same}
 use Rattle.trial.specs.Flat.{Drawn}
-use Rattle.repeat.specs.Words.{tied, keeps, Words, KeptBack, AllFrom, AllTo, Unskipped}
+use Rattle.repeat.specs.declared.draw.Neighbours.{Neighbours}
+use Rattle.repeat.specs.Words.{heads_of, tails_of, tied_of, tied, keeps, Words, KeptBack, AllFrom, AllTo, Unskipped}
 
 -- What holds at v, and of each that is led to where it holds of the one before, holds at the end of a trail from v.
 pub trail_keeps : (set : ℕ → ℕ) (P : ℕ → Type 0) → ((v w : ℕ) → P v → has (set v) w ≡ 1 → P w) → (v : ℕ) (trail : List ℕ) (w : ℕ) → P v → Trail set v trail w → P w
@@ -52,28 +52,14 @@ tied_none g x c l t s z =
     let less : e.tokens + x e.head * e.consume < e.produce = rw z (omega (arith, ltb-true e.tokens e.produce t)) in
     omega (arith, s.channel c l, div-eq_of_lt less)
 
--- What `spread` asks for words k.
-abbrev pub Ready : ℕ → List ℕ → ℕ → Type 0
-Ready k words start = (k < 3) × (length words / 3 ≤ 64) × Below start (length words / 3) × ((v : ℕ) → v < length words / 3 → Below (word words k v) (length words / 3))
+-- What is told of an actor is gathered from channels between actors, so it has actors alone.
+pub told_below : (g : Graph) {at of : ℕ → ℕ} {picked : ℕ → Bool} {sets : ℕ → ℕ} → Gathers g.actors g.channels at of picked sets → ((c : ℕ) → c < g.channels → of c < g.actors) → (v set : ℕ) → v < g.actors
+    → set ≡ sets v → Below set g.actors
+told_below g gathers ends v set l e = rw e (gather_below g.actors gathers ends v l)
 
--- Words gathered from the channels of a drawn graph, and a start among its actors, are what it asks for.
-ready : {at of : ℕ → ℕ} {picked : ℕ → Bool} (g : Graph) (k : ℕ) (words : List ℕ) (start : ℕ) → Drawn g → k < 3 → length words ≡ 3 * g.actors
-    → Gathers g.actors g.channels at of picked (word words k) → ((c : ℕ) → c < g.channels → of c < g.actors) → Below start g.actors → Ready k words start
-ready g k words start drawn l room gathers sound below =
-    let e : length words / 3 ≡ g.actors = omega arith in
-    (l, omega (arith, drawn.actors), λ v h. omega (arith, below v h), λ v m w h. omega (arith, gather_below g.actors gathers sound v (omega arith) w h))
-
-module _ {g : Graph} {words : List ℕ} (drawn : Drawn g) (w : Words g words) where
-  -- The words are ready to spread along the channels.
-  pub ready_heads : (start : ℕ) → Below start g.actors → Ready 0 words start
-  ready_heads start b = ready g 0 words start drawn (omega arith) w.room w.heads drawn.sound.head b
-
-  -- And against those that are tied.
-  pub ready_tied : (start : ℕ) → Below start g.actors → Ready 2 words start
-  ready_tied start b = ready g 2 words start drawn (omega arith) w.room w.tied drawn.sound.tail b
-
+module _ {g : Graph} {neighbours : List Neighbours} (drawn : Drawn g) (w : Words g neighbours) where
   -- The input reaches all that are met from it along the channels.
-  met_from : {start met : ℕ} → Put 0 g.input 1 start → Spread (word words 0) start met → (v : ℕ) → has met v ≡ 1 → (v < g.actors) × Reaches g g.input v
+  met_from : {start met : ℕ} → Put 0 g.input 1 start → Spread (heads_of neighbours) start met → (v : ℕ) → has met v ≡ 1 → (v < g.actors) × Reaches g g.input v
   met_from p s =
       spread_keeps (λ v. (v < g.actors) × Reaches g g.input v) s
       (λ v h. rw (only_one p v h) (drawn.sound.input, reach_self g g.input))
@@ -85,16 +71,16 @@ module _ {g : Graph} {words : List ℕ} (drawn : Drawn g) (w : Words g words) wh
           subst (λ (x : ℕ). (x < g.actors) × Reaches g g.input x) j.3 (drawn.sound.head j.0 j.1, reach_step g g.input j.0 r' j.1)
 
   -- All that the input reaches are met from it along the channels.
-  from_met : {start met : ℕ} → Put 0 g.input 1 start → Spread (word words 0) start met → (v : ℕ) → Reaches g g.input v → has met v ≡ 1
+  from_met : {start met : ℕ} → Put 0 g.input 1 start → Spread (heads_of neighbours) start met → (v : ℕ) → Reaches g g.input v → has met v ≡ 1
   from_met {start} {met} p s v r =
       reach_closed g (λ v. has met v ≡ 1) g.input v (s.starts g.input p.here) (λ c l h. s.closed (g.channel c).tail (g.channel c).head h (w.heads.holds c l refl)) r
 
   -- All are met along the channels from the input, exactly if it reaches them.
-  pub from_decides : {start met : ℕ} (r : Bool) → Put 0 g.input 1 start → Spread (word words 0) start met → Decides r (Covers met g.actors) → Decides r (AllFrom g g.input)
+  pub from_decides : {start met : ℕ} (r : Bool) → Put 0 g.input 1 start → Spread (heads_of neighbours) start met → Decides r (Covers met g.actors) → Decides r (AllFrom g g.input)
   from_decides r p s d = decides_same r (λ c v l. (met_from p s v (c v l)).1) (λ a v l. from_met p s v (a v l)) d
 
   -- All that are met from a set against the channels reach the output, where those in the set do.
-  met_to : {start met : ℕ} → Unskipped g start → Spread (word words 1) start met → (v : ℕ) → has met v ≡ 1 → (v < g.actors) × Reaches g v g.output
+  met_to : {start met : ℕ} → Unskipped g start → Spread (tails_of neighbours) start met → (v : ℕ) → has met v ≡ 1 → (v < g.actors) × Reaches g v g.output
   met_to z s =
       spread_keeps (λ v. (v < g.actors) × Reaches g v g.output) s
       (λ v h. (z.actors v h, z.reach v h))
@@ -106,7 +92,7 @@ module _ {g : Graph} {words : List ℕ} (drawn : Drawn g) (w : Words g words) wh
           subst (λ (x : ℕ). (x < g.actors) × Reaches g x g.output) j.3 (drawn.sound.tail j.0 j.1, reach_back g j.0 g.output j.1 r')
 
   -- All that reach the output are met from a set that has it.
-  to_met : {start met : ℕ} → Unskipped g start → Spread (word words 1) start met → (v : ℕ) → Reaches g v g.output → has met v ≡ 1
+  to_met : {start met : ℕ} → Unskipped g start → Spread (tails_of neighbours) start met → (v : ℕ) → Reaches g v g.output → has met v ≡ 1
   to_met {start} {met} z s v r = ⊎_elim
       (λ n. absurd (omega (arith, s.starts g.output z.output, reach_closed g (λ v. has met v ≡ 0) v g.output n out r)))
       (λ h. h)
@@ -119,7 +105,7 @@ module _ {g : Graph} {words : List ℕ} (drawn : Drawn g) (w : Words g words) wh
           (has_bit met (g.channel c).head)
 
   -- All are met against the channels from a set that has the output and whose actors reach it, exactly if all reach it.
-  pub to_decides : {start met : ℕ} (r : Bool) → Unskipped g start → Spread (word words 1) start met → Decides r (Covers met g.actors) → Decides r (AllTo g g.output)
+  pub to_decides : {start met : ℕ} (r : Bool) → Unskipped g start → Spread (tails_of neighbours) start met → Decides r (Covers met g.actors) → Decides r (AllTo g g.output)
   to_decides r z s d = decides_same r (λ c v l. (met_to z s v (c v l)).1) (λ a v l. to_met z s v (a v l)) d
 
   -- What is said of each actor that cannot skip.
@@ -127,7 +113,7 @@ module _ {g : Graph} {words : List ℕ} (drawn : Drawn g) (w : Words g words) wh
   Zero v = (v < g.actors) × Reaches g v g.output × ((x : ℕ → ℕ) → Skippable g x → x v ≡ 0)
 
   -- All that are met from the output against the tied channels cannot skip, and reach the output.
-  met_unskipped : {start met : ℕ} → Put 0 g.output 1 start → Spread (word words 2) start met → (v : ℕ) → has met v ≡ 1 → Zero v
+  met_unskipped : {start met : ℕ} → Put 0 g.output 1 start → Spread (tied_of neighbours) start met → (v : ℕ) → has met v ≡ 1 → Zero v
   met_unskipped p s =
       spread_keeps Zero s
       (λ v h. rw (only_one p v h) (drawn.sound.output, reach_self g g.output, λ x k. k.output))
@@ -139,7 +125,7 @@ module _ {g : Graph} {words : List ℕ} (drawn : Drawn g) (w : Words g words) wh
           subst Zero j.3 (drawn.sound.tail j.0 j.1, reach_back g j.0 g.output j.1 q'.1, λ x k. tied_none g x j.0 j.1 j.4 k (q'.2 x k))
 
   -- The set of all that are met from the output against the tied channels.
-  pub unskipped_met : {start met : ℕ} → Put 0 g.output 1 start → Spread (word words 2) start met → Unskipped g met
+  pub unskipped_met : {start met : ℕ} → Put 0 g.output 1 start → Spread (tied_of neighbours) start met → Unskipped g met
   unskipped_met p s =
       record {
         output = s.starts g.output p.here;

@@ -6,10 +6,13 @@ ghost use Rattle.std.specs.Prelude.{◌≡◌, ◌+◌, ◌*◌, ◌/◌, ◌<�
 ghost use Rattle.sets.specs.Decides.{Decides};
 ghost use Rattle.sdf.specs.Order.{AtRest};
 ghost use Rattle.trial.specs.Net.{net_graph};
-ghost use Rattle.repeat.specs.Words.{Words, Between, KeptBack, Unskipped};
+ghost use Rattle.repeat.specs.Words.{KeptBack, Unskipped};
 ghost use Rattle.repeat.specs.Repetition.{BalanceAnswer};
 ghost use Rattle.graph.specs.Judged.{Judged, fault_of};
 
+use knot::Waiting;
+use repeat::chart::Chart;
+use repeat::draw::Neighbours;
 use repeat::repetition::Unnumbered;
 use repeat::{draw, repetition};
 use sets::{covers, with};
@@ -42,25 +45,23 @@ impl From<Unnumbered> for Fault {
 // Answers 7 and 8, or the repetition numbers in q. That the input reaches every actor comes with the numbers, and is looked at for
 // itself only where there are none. `zero` holds actors that reach the output; `met` is lent to note an order in.
 fn balance(
-    net: &Net,
-    words: &[u64],
-    between: &[u8],
+    chart: &Chart,
     zero: u64,
     q: &mut [u64],
     awaits: &mut [u64],
     met: &mut [u64],
 ) -> Result<(), Unnumbered>
-    requires drawn { Words (net_graph net.now) words.now × Between (net_graph net.now) words.now between.now × Unskipped (net_graph net.now) zero }
-    requires actors_in_bounds { (net.now.actors ≤ length q.old) × (net.now.actors * net.now.actors ≤ length between.now) × (net.now.actors ≤ length awaits.old) }
-    ensures { BalanceAnswer (net_graph net.now) result q.new awaits.new }
+    requires unskipped { Unskipped (net_graph chart.now.net.now) zero }
+    requires actors_in_bounds { (chart.now.net.now.actors ≤ length q.old) × (chart.now.net.now.actors * chart.now.net.now.actors ≤ length chart.now.between.now) × (chart.now.net.now.actors ≤ length awaits.old) }
+    ensures { BalanceAnswer (net_graph chart.now.net.now) result q.new awaits.new }
 {
-    if !reach::to_output(net, words, zero) {
+    if !reach::to_output(chart, zero) {
         return Err(Unnumbered::Unreached);
     }
-    match repetition::repetition(net, words, between, q, awaits, met) {
+    match repetition::repetition(chart, q, awaits, met) {
         Ok(()) => Ok(()),
         Err(Unnumbered::Unreached) => Err(Unnumbered::Unreached),
-        Err(Unnumbered::Unbalanced) if reach::from_input(net, words) => Err(Unnumbered::Unbalanced),
+        Err(Unnumbered::Unbalanced) if reach::from_input(chart) => Err(Unnumbered::Unbalanced),
         Err(Unnumbered::Unbalanced) => Err(Unnumbered::Unreached),
     }
 }
@@ -74,12 +75,12 @@ fn at_rest(net: &Net, back: u64) -> bool
 }
 
 // The first of answers 7 to 11 that applies. Without one the repetition numbers stand in q and the skips in s. The slices after these
-// are lent to work in: `words` three for each actor, `between` one for each pair of them.
+// are lent to work in: `neighbours` one for each actor, `between` one for each pair of them.
 pub fn numbers(
     net: &Net,
     q: &mut [u64],
     s: &mut [u64],
-    words: &mut [u64],
+    neighbours: &mut [Neighbours],
     between: &mut [u8],
     awaits: &mut [u64],
     kept: &mut [u32],
@@ -90,26 +91,34 @@ pub fn numbers(
     out: &mut [u64],
     hints: &mut [u64],
 ) -> Result<(), Fault>
-    requires drawn { (length words.old ≡ 3 * net.now.actors) × (net.now.actors * net.now.actors ≤ length between.old) }
+    requires drawn { (net.now.actors ≤ length neighbours.old) × (net.now.actors * net.now.actors ≤ length between.old) }
     requires actors_in_bounds { (net.now.actors ≤ length q.old) × (net.now.actors ≤ length s.old) × (net.now.actors ≤ length awaits.old) × (length net.now.channels.now / 5 ≤ length kept.old / 5) }
     requires channels_in_bounds { (length net.now.channels.now / 5 ≤ length tokens.old) × (net.now.actors ≤ length left.old) × (net.now.actors ≤ length ready.old) }
     requires channels_in_bounds_2 { (net.now.actors + length net.now.channels.now / 5 ≤ length into.old) × (net.now.actors + length net.now.channels.now / 5 ≤ length out.old) × (0 < length hints.old) }
     ensures { Judged (net_graph net.now) result q.new s.new }
 {
-    let back = draw::draw(net, words, between);
-    let zero = reach::unskipped(net, words);
-    balance(net, words, between, zero, q, awaits, left)?;
+    let back = draw::draw(net, neighbours, between);
+    let chart = Chart {
+        net,
+        neighbours,
+        between,
+    };
+    let zero = reach::unskipped(&chart);
+    balance(&chart, zero, q, awaits, left)?;
     if q[net.input] != 1 || q[net.output] != 1 {
         return Err(Fault::NotOnce);
     }
-    if !knot::lives(
-        net, q, awaits, kept, s, tokens, left, ready, into, out, hints,
-    ) {
+    let waiting = Waiting {
+        net: chart.net,
+        q,
+        awaits,
+    };
+    if !knot::lives(&waiting, kept, s, tokens, left, ready, into, out, hints) {
         return Err(Fault::Deadlock);
     }
     if !at_rest(net, back) {
         return Err(Fault::Restless);
     }
-    skip::skips(net, words, zero, into, q, s);
+    skip::skips(&chart, zero, into, q, s);
     Ok(())
 }

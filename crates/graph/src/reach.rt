@@ -2,35 +2,42 @@
 ghost use Rattle.std.specs.Prelude.{◌≡◌, length};
 ghost use Rattle.sets.specs.Decides.{Decides};
 ghost use Rattle.trial.specs.Net.{net_graph};
-ghost use Rattle.repeat.specs.Words.{Words, AllFrom, AllTo, Unskipped};
+ghost use Rattle.repeat.specs.Words.{AllFrom, AllTo, Unskipped};
 
-use repeat::draw::{HEADS, TAILS, TIED};
+use repeat::chart::Chart;
 use sets::{covers, only, spread};
-use trial::net::Net;
 
 // Whether the input reaches every actor.
-pub fn from_input(net: &Net, words: &[u64]) -> bool
-    requires { Words (net_graph net.now) words.now }
-    ensures { Decides result (AllFrom (net_graph net.now) net.now.input) }
+pub fn from_input(chart: &Chart) -> bool
+    ensures { Decides result (AllFrom (net_graph chart.now.net.now) chart.now.net.now.input) }
 {
-    covers(spread(words, HEADS, only(net.input)), net.actors)
+    let met = spread(
+        chart.net.actors,
+        |v| chart.neighbours[v].heads,
+        only(chart.net.input),
+    );
+    covers(met, chart.net.actors)
 }
 
 // Actors that cannot skip: the output, and the tails that are tied to one of them.
-pub fn unskipped(net: &Net, words: &[u64]) -> u64
-    requires { Words (net_graph net.now) words.now }
-    ensures { Unskipped (net_graph net.now) result }
+pub fn unskipped(chart: &Chart) -> u64
+    ensures { Unskipped (net_graph chart.now.net.now) result }
 {
-    spread(words, TIED, only(net.output))
+    spread(
+        chart.net.actors,
+        |v| chart.neighbours[v].tied,
+        only(chart.net.output),
+    )
 }
 
 // Whether every actor reaches the output. Those in `zero` do.
-pub fn to_output(net: &Net, words: &[u64], zero: u64) -> bool
-    requires { Words (net_graph net.now) words.now × Unskipped (net_graph net.now) zero }
-    ensures { Decides result (AllTo (net_graph net.now) net.now.output) }
+pub fn to_output(chart: &Chart, zero: u64) -> bool
+    requires { Unskipped (net_graph chart.now.net.now) zero }
+    ensures { Decides result (AllTo (net_graph chart.now.net.now) chart.now.net.now.output) }
 {
-    if covers(zero, net.actors) {
+    if covers(zero, chart.net.actors) {
         return true;
     }
-    covers(spread(words, TAILS, zero), net.actors)
+    let met = spread(chart.net.actors, |v| chart.neighbours[v].tails, zero);
+    covers(met, chart.net.actors)
 }

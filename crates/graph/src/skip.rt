@@ -11,9 +11,9 @@ ghost use Rattle.trial.specs.Read.{seen};
 ghost use Rattle.sets.specs.Decides.{Decides};
 ghost use Rattle.repeat.specs.Repetition.{Repeats};
 ghost use Rattle.graph.specs.Skip.{Highest, Falling, Entries, Lowered};
-ghost use Rattle.repeat.specs.Words.{Words, Unskipped};
+ghost use Rattle.repeat.specs.Words.{Unskipped};
 
-use repeat::draw::TAILS;
+use repeat::chart::Chart;
 use sets::{common, covers, greatest, has, joined, minus, with, without};
 use trial::along::Along;
 use trial::channel::Channel;
@@ -87,29 +87,29 @@ fn lower(net: &Net, into: &[u64], zero: u64, h: usize, s: &mut [u64]) -> u64
 }
 
 // Those of `zero` with a tail outside it: only the channels into them may lower a tail at first.
-fn entries(net: &Net, words: &[u64], zero: u64) -> u64
-    requires { Words (net_graph net.now) words.now }
-    ensures { Entries (net_graph net.now) zero result }
+fn entries(chart: &Chart, zero: u64) -> u64
+    ensures { Entries (net_graph chart.now.net.now) zero result }
 {
     let mut set = 0;
-    for v in 0..net.actors {
-        set = with(set, v, minus(words[3 * v + TAILS], zero) != 0);
+    for v in 0..chart.net.actors {
+        set = with(set, v, minus(chart.neighbours[v].tails, zero) != 0);
     }
     common(set, zero)
 }
 
 // `into` is lent to work in.
-pub fn skips(net: &Net, words: &[u64], zero: u64, into: &mut [u64], q: &[u64], s: &mut [u64])
-    requires drawn { (Reached (net_graph net.now)) × (net.now.actors ≤ length q.now) × (net.now.actors ≤ length s.old) × (Repeats (net_graph net.now) q.now) }
-    requires words { Words (net_graph net.now) words.now × Unskipped (net_graph net.now) zero × (net.now.actors + length net.now.channels.now / 5 ≤ length into.old) }
-    ensures { Skips (net_graph net.now) (vector s.new) }
+pub fn skips(chart: &Chart, zero: u64, into: &mut [u64], q: &[u64], s: &mut [u64])
+    requires drawn { (Reached (net_graph chart.now.net.now)) × (chart.now.net.now.actors ≤ length q.now) × (chart.now.net.now.actors ≤ length s.old) × (Repeats (net_graph chart.now.net.now) q.now) }
+    requires unskipped { Unskipped (net_graph chart.now.net.now) zero × (chart.now.net.now.actors + length chart.now.net.now.channels.now / 5 ≤ length into.old) }
+    ensures { Skips (net_graph chart.now.net.now) (vector s.new) }
 {
+    let net = chart.net;
     start(net.actors, zero, q, s);
     if covers(zero, net.actors) {
         return;
     }
     link(net, End::Head, into);
-    let mut todo = entries(net, words, zero);
+    let mut todo = entries(chart, zero);
     while todo != 0 {
         let h = greatest(todo);
         let fell = lower(net, into, zero, h, s);

@@ -7,6 +7,7 @@ ghost use Rattle.trial.specs.Net.{net_graph};
 ghost use Rattle.graphs.specs.Small.{Small};
 
 use graph::Fault;
+use repeat::draw::Neighbours;
 use std::io;
 use trial::net::Net;
 
@@ -48,7 +49,7 @@ fn judge(rt: &impl Print, net: &Net) -> io::Result<()>
 {
     let mut q = [0u64; 3];
     let mut s = [0u64; 3];
-    let mut words = [0u64; 9];
+    let mut neighbours = [Neighbours::NOBODY; 3];
     let mut between = [0u8; 9];
     let mut awaits = [0u64; 3];
     let mut kept = [0u32; 10];
@@ -62,7 +63,7 @@ fn judge(rt: &impl Print, net: &Net) -> io::Result<()>
         net,
         &mut q,
         &mut s,
-        &mut words[..3 * net.actors],
+        &mut neighbours,
         &mut between,
         &mut awaits,
         &mut kept,

@@ -16,10 +16,22 @@ ghost use Rattle.trial.specs.Knot.{waits, Awaits, Done, Core, Kept, Shares, Rele
 
 use sets::{Members, all, common, has, joined, minus, with};
 use trial::channel::Channel;
-use trial::links::{End, link};
+use trial::linked::Lists;
 use trial::net::Net;
 use trial::run;
 use units::{Count, Firings};
+
+// A graph with balanced numbers, and for whom each actor has to wait. `awaited` says that the sets are right, but not which
+// channel put an actor in: the proofs look for one.
+#[derive(Drop)]
+pub struct Waiting<'a> {
+    pub net: &'a Net<'a>,
+    pub q: &'a [u64],
+    pub awaits: &'a [u64],
+    pub ghost balanced: { Balanced (net_graph net.now) (vector q.now) },
+    pub ghost awaited: { ∥ Awaits (net_graph net.now) (vector q.now) (vector awaits.now) ∥₁ },
+    pub ghost room: { net.now.actors ≤ length awaits.now },
+}
 
 // Those left without v, if it waits for none of them.
 fn release(left: u64, awaits: u64, v: usize) -> u64
@@ -30,29 +42,30 @@ fn release(left: u64, awaits: u64, v: usize) -> u64
 }
 
 // One pass over the actors in the order in which they were met. The order is a hint: what stands there matters for the time only.
-fn pass(net: &Net, q: &[u64], awaits: &[u64], met: &[u64], left: u64) -> u64
-    requires drawn { Balanced (net_graph net.now) (vector q.now) × Awaits (net_graph net.now) (vector q.now) (vector awaits.now) × (net.now.actors ≤ length awaits.now) × (net.now.actors ≤ length met.now) }
-    requires done { Done (net_graph net.now) (vector q.now) left × Below left net.now.actors }
-    ensures { Done (net_graph net.now) (vector q.now) result × Below result net.now.actors × (result ≤ left) }
+fn pass(waiting: &Waiting, met: &[u64], left: u64) -> u64
+    requires met_in_bounds { waiting.now.net.now.actors ≤ length met.now }
+    requires done { Done (net_graph waiting.now.net.now) (vector waiting.now.q.now) left × Below left waiting.now.net.now.actors }
+    ensures { Done (net_graph waiting.now.net.now) (vector waiting.now.q.now) result × Below result waiting.now.net.now.actors × (result ≤ left) }
 {
+    let actors = waiting.net.actors;
     let mut rest = left;
-    for v in &met[..net.actors] {
+    for v in &met[..actors] {
         let v = *v as usize;
-        if v < net.actors {
-            rest = release(rest, awaits[v], v);
+        if v < actors {
+            rest = release(rest, waiting.awaits[v], v);
         }
     }
     rest
 }
 
 // Those who are left when all have fired who wait for nobody left.
-fn ordered(net: &Net, q: &[u64], awaits: &[u64], met: &[u64]) -> u64
-    requires { Balanced (net_graph net.now) (vector q.now) × Awaits (net_graph net.now) (vector q.now) (vector awaits.now) × (net.now.actors ≤ length awaits.now) × (net.now.actors ≤ length met.now) }
-    ensures { Done (net_graph net.now) (vector q.now) result × Below result net.now.actors }
+fn ordered(waiting: &Waiting, met: &[u64]) -> u64
+    requires { waiting.now.net.now.actors ≤ length met.now }
+    ensures { Done (net_graph waiting.now.net.now) (vector waiting.now.q.now) result × Below result waiting.now.net.now.actors }
 {
-    let mut left = all(net.actors);
+    let mut left = all(waiting.net.actors);
     loop {
-        let rest = pass(net, q, awaits, met, left);
+        let rest = pass(waiting, met, left);
         if rest == 0 || rest == left {
             return rest;
         }
@@ -73,14 +86,13 @@ fn wanted(awaits: &[u64], left: u64) -> u64
 }
 
 // The core of those left: without those whom nobody awaits.
-fn core_of(net: &Net, q: &[u64], awaits: &[u64], left: u64) -> u64
-    requires drawn { Balanced (net_graph net.now) (vector q.now) × Awaits (net_graph net.now) (vector q.now) (vector awaits.now) × (net.now.actors ≤ length awaits.now) }
-    requires done { Done (net_graph net.now) (vector q.now) left × Below left net.now.actors }
-    ensures { Core (net_graph net.now) (vector q.now) result × Below result net.now.actors }
+fn core_of(waiting: &Waiting, left: u64) -> u64
+    requires { Done (net_graph waiting.now.net.now) (vector waiting.now.q.now) left × Below left waiting.now.net.now.actors }
+    ensures { Core (net_graph waiting.now.net.now) (vector waiting.now.q.now) result × Below result waiting.now.net.now.actors }
 {
     let mut core = left;
     loop {
-        let rest = wanted(awaits, core);
+        let rest = wanted(waiting.awaits, core);
         if rest == core {
             return core;
         }
@@ -167,12 +179,10 @@ fn shares(actors: usize, q: &[u64], core: u64, share: &mut [u64])
     }
 }
 
-// 01, Deadlock: whether some legal order fires every actor exactly q times. `awaits` says for whom each actor has to wait. On entry `left`
-// holds actors in an order that helps; it and what follows are lent to work in.
+// 01, Deadlock: whether some legal order fires every actor exactly q times. On entry `left` holds actors in an order that
+// helps; it and what follows are lent to work in.
 pub fn lives(
-    net: &Net,
-    q: &[u64],
-    awaits: &[u64],
+    waiting: &Waiting,
     kept: &mut [u32],
     share: &mut [u64],
     tokens: &mut [u64],
@@ -182,17 +192,18 @@ pub fn lives(
     out: &mut [u64],
     hints: &mut [u64],
 ) -> bool
-    requires drawn { Balanced (net_graph net.now) (vector q.now) × Awaits (net_graph net.now) (vector q.now) (vector awaits.now) × (net.now.actors ≤ length awaits.now) }
-    requires at_most { AtMost (net_graph net.now) (vector q.now) (λ _. max_repetition) × (net.now.actors ≤ length q.now) }
-    requires channels_in_bounds { (length net.now.channels.now / 5 ≤ length kept.old / 5) × (net.now.actors ≤ length share.old) × (length net.now.channels.now / 5 ≤ length tokens.old) × (net.now.actors ≤ length left.old) × (net.now.actors ≤ length ready.old) }
-    requires channels_in_bounds_2 { (net.now.actors + length net.now.channels.now / 5 ≤ length into.old) × (net.now.actors + length net.now.channels.now / 5 ≤ length out.old) × (0 < length hints.old) }
-    ensures { Decides result (Lives (net_graph net.now) (vector q.now)) }
+    requires at_most { AtMost (net_graph waiting.now.net.now) (vector waiting.now.q.now) (λ _. max_repetition) × (waiting.now.net.now.actors ≤ length waiting.now.q.now) }
+    requires channels_in_bounds { (length waiting.now.net.now.channels.now / 5 ≤ length kept.old / 5) × (waiting.now.net.now.actors ≤ length share.old) × (length waiting.now.net.now.channels.now / 5 ≤ length tokens.old) × (waiting.now.net.now.actors ≤ length left.old) × (waiting.now.net.now.actors ≤ length ready.old) }
+    requires channels_in_bounds_2 { (waiting.now.net.now.actors + length waiting.now.net.now.channels.now / 5 ≤ length into.old) × (waiting.now.net.now.actors + length waiting.now.net.now.channels.now / 5 ≤ length out.old) × (0 < length hints.old) }
+    ensures { Decides result (Lives (net_graph waiting.now.net.now) (vector waiting.now.q.now)) }
 {
-    let late = ordered(net, q, awaits, left);
+    let net = waiting.net;
+    let q = waiting.q;
+    let late = ordered(waiting, left);
     if late == 0 {
         return true;
     }
-    let core = core_of(net, q, awaits, late);
+    let core = core_of(waiting, late);
     let n = keep(net, q, core, kept);
     shares(net.actors, q, core, share);
     let inner = Net {
@@ -201,7 +212,6 @@ pub fn lives(
         output: net.output,
         channels: &kept[..5 * n],
     };
-    link(&inner, End::Head, into);
-    link(&inner, End::Tail, out);
-    run::lives(&inner, share, tokens, left, ready, into, out, hints)
+    let lists = Lists::of(&inner, into, out);
+    run::lives(&lists, share, tokens, left, ready, hints)
 }

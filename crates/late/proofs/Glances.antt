@@ -3,10 +3,8 @@ use mathlib.Core.Path.{◌≡◌}
 use Prim.Native.Nat.{ℕ, ◌*◌, ◌^◌, ◌<◌, ◌≤◌}
 use native.Mathlib.Nat.{le_refl, le_trans, lt_of_lt_of_le, lt_of_le_of_lt, mul_comm, mul-le-mul, mul-le-mul_right}
 use native.Mathlib.Omega.{arith}
-use mathlib.Core.List.{List}
 use lib.Dec.{lit<}
 use lib.ListN.{length, get_or}
-use Rattle.units.specs.declared.Ticks.{Ticks}
 use Rattle.units.specs.Bounds.{engine_actors, max_repetition, max_ticks, max_time}
 use Rattle.sdf.specs.Sum.{sum_to}
 use Rattle.sdf.proofs.Sum.{sum_bound, sum_mono}
@@ -16,8 +14,9 @@ use Rattle.edf.specs.Demand.{Works, blocks, demand, iteration}
 use Rattle.edf.proofs.Blocks.{due_at_most}
 use Rattle.edf.proofs.Demand.{demand_mono}
 use Rattle.edf.proofs.Fits.{iteration_at_most}
+use Rattle.demand.specs.declared.frame.Weighted.{Weighted}
 use Rattle.demand.specs.declared.rows.Rows.{Rows}
-use Rattle.demand.specs.Lent.{no_ticks, Weighed}
+use Rattle.demand.specs.Lent.{no_ticks}
 use Rattle.demand.specs.Rows.{works_in, work_in}
 use Rattle.demand.proofs.Sums.{Added, added}
 use Rattle.late.specs.Cycle.{Eased, long_works, floor_at}
@@ -42,12 +41,13 @@ fits_whole_to {ws} g {t} {n} l k = lt_of_le_of_lt (le_trans (sum_bound (graph_wh
     each = max_ticks * (engine_actors * (max_time * max_repetition))
 
 -- The weight of graph i × its blocks due is added.
-pub whole_added : (rows : Rows) {weight : List Ticks} → Weighed (works_in rows) weight → {t i x k : ℕ} → t ≤ max_ticks
-    → i < length rows.heads.now → x ≡ sum_to (graph_whole (works_in rows) t) i
-    → k ≡ due (work_in rows i).period (work_in rows i).deadline t
-    → Added (graph_whole (works_in rows) t) x ((get_or weight i no_ticks).n * k) i
-whole_added rows {weight} g {t} {i} {x} {k} h m e d = added (graph_whole (works_in rows) t) (fits_whole_to rows.lent.bounded h (omega arith)) e
-    (rw (mul_comm (get_or weight i no_ticks).n k, d, g.weight i m))
+pub whole_added : (g : Weighted) {t i x k : ℕ} → t ≤ max_ticks → i < length g.rows.now.heads.now
+    → x ≡ sum_to (graph_whole (works_in g.rows.now) t) i
+    → k ≡ due (work_in g.rows.now i).period (work_in g.rows.now i).deadline t
+    → Added (graph_whole (works_in g.rows.now) t) x ((get_or g.weight.now i no_ticks).n * k) i
+whole_added g {t} {i} {x} {k} h m e d =
+    added (graph_whole (works_in g.rows.now) t) (fits_whole_to g.rows.now.lent.bounded h (omega arith)) e
+    (rw (mul_comm (get_or g.weight.now i no_ticks).n k, d, g.weighed.weight i m))
 
 -- Demand is at most the sum over all graphs.
 pub whole_above : (ws : Works) (t : ℕ) {x : ℕ} → x ≡ sum_to (graph_whole ws t) ws.graphs → demand ws t ≤ x

@@ -17,8 +17,8 @@ max_cycle = 2048
 abbrev pub Parting : Head → (cycle actors : ℕ) → Type 0
 Parting head cycle actors = ((actors ≡ head.actors) × (head.period.n ∣ cycle)) ⊎ (actors ≡ 0)
 
--- Two parts of a graph: they have its period and deadline, one has all of its actors, and that is `short` only if the period divides
--- the cycle.
+-- Two parts of a graph. Both have its period and deadline, and one of them has all its actors: `short` only if the period divides the
+-- cycle.
 pub record Parts (cycle : ℕ) (head short long : Head) : Type 0 where
   pub short_period : short.period.n ≡ head.period.n
   pub short_deadline : short.deadline.n ≡ head.deadline.n

@@ -9,7 +9,7 @@ ghost use Rattle.piece.specs.Pieces.{Pieces};
 ghost use Rattle.late.specs.Cycle.{max_cycle, Parting, Parted, Floors, floor_at, Eased};
 
 use super::glance::Glance;
-use demand::frame::{common, frame_load, weigh};
+use demand::frame::{Weighted, common, frame_load, weigh};
 use demand::rows::{Head, Rows};
 use piece::{Known, blank, look};
 use units::{Count, Ticks};
@@ -116,11 +116,15 @@ fn rest_of(short: &Rows, cycle: Ticks) -> Option<Ticks>
 {
     let mut weight = [Ticks::of(0); GRAPHS];
     weigh(short, &mut weight);
-    let load = frame_load(short, &weight, cycle).count();
+    let weighted = Weighted {
+        rows: short,
+        weight: &weight,
+    };
+    let load = frame_load(&weighted, cycle).count();
     cycle.count().checked_sub(load).map(Ticks::of)
 }
 
-// A table over a cycle, how much of each cycle its graphs leave, and the other graphs, with what is known of these.
+// A table over a cycle: how much of each cycle its graphs leave, and the other graphs with what is known of each.
 #[derive(Drop)]
 pub struct Table<'a> {
     cycle: Ticks,

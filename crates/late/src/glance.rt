@@ -1,12 +1,12 @@
 // 01, answer 21: what is tried at a length before demand itself, which looks at every graph.
-ghost use Rattle.std.specs.Prelude.{◌≤◌};
+ghost use Rattle.std.specs.Prelude.{◌≡◌, ◌≤◌};
 ghost use Rattle.units.specs.Bounds.{max_ticks};
 ghost use Rattle.edf.specs.Demand.{demand};
-ghost use Rattle.demand.specs.Lent.{Weighed};
 ghost use Rattle.demand.specs.Rows.{works_in};
 ghost use Rattle.demand.specs.declared.rows.Rows.{Rows};
 ghost use Rattle.late.specs.Search.{Glanced};
 
+use demand::frame::Weighted;
 use demand::rows::Rows;
 use units::{Count, Ticks};
 
@@ -21,13 +21,13 @@ pub trait Glance {
 }
 
 // Demand at a length as if nothing were skipped: at least demand, and without a look at an actor.
-fn without_skips(rows: &Rows, weight: &[Ticks], length: Ticks) -> Ticks
-    requires { Weighed (works_in rows.now) weight.now × (length.n ≤ max_ticks) }
-    ensures { demand (works_in rows.now) length.n ≤ result.n }
+fn without_skips(weighted: &Weighted, length: Ticks) -> Ticks
+    requires { length.n ≤ max_ticks }
+    ensures { demand (works_in weighted.now.rows.now) length.n ≤ result.n }
 {
     let mut sum = Ticks::of(0);
-    for i in 0..rows.graphs() {
-        sum = sum.plus(weight[i].times(rows.blocks(i, length)));
+    for i in 0..weighted.rows.graphs() {
+        sum = sum.plus(weighted.weight[i].times(weighted.rows.blocks(i, length)));
     }
     sum
 }
@@ -35,14 +35,14 @@ fn without_skips(rows: &Rows, weight: &[Ticks], length: Ticks) -> Ticks
 // For few looks: demand without skips, from the weights.
 #[derive(Drop)]
 pub struct Whole<'a> {
-    pub weight: &'a [Ticks],
+    pub weighted: &'a Weighted<'a>,
 }
 
 impl Glance for Whole<'_> {
-    ghost serves = { λ g rows. Weighed (works_in rows) g.weight.now };
+    ghost serves = { λ g rows. g.weighted.now.rows.now ≡ rows };
 
-    fn glance(&mut self, rows: &Rows, length: Ticks) -> Ticks {
-        without_skips(rows, self.weight, length)
+    fn glance(&mut self, _rows: &Rows, length: Ticks) -> Ticks {
+        without_skips(self.weighted, length)
     }
 }
 

@@ -6,7 +6,6 @@ ghost use Rattle.std.specs.Prelude.{◌≡◌, ◌*◌, ◌<◌, ◌≤◌, leng
 ghost use Rattle.units.specs.Bounds.{max_ticks};
 ghost use Rattle.edf.specs.Demand.{load as load_of};
 ghost use Rattle.edf.specs.Frame.{Frame};
-ghost use Rattle.demand.specs.Lent.{Weighed};
 ghost use Rattle.demand.specs.Rows.{works_in, work_in};
 ghost use Rattle.late.specs.Answers.{LateAnswer};
 ghost use Rattle.piece.specs.Pieces.{Pieces};
@@ -15,6 +14,7 @@ ghost use Rattle.late.specs.Search.{Leapt, SettleAnswer, FoundAnswer, SearchAnsw
 use super::cycle::{LONGEST, ease};
 use super::end::search_end;
 use super::glance::{Glance, Nothing, Whole};
+use demand::frame::Weighted;
 use demand::rows::{Head, Rows};
 use piece::{Known, blank, look};
 use units::{Count, Ticks};
@@ -149,21 +149,16 @@ fn far(rows: &Rows, end: Ticks, pieces: &mut [Known]) -> Option<Ticks>
 }
 
 // The smallest late length. Scratch: `pieces`, one for each graph.
-pub fn late(
-    rows: &Rows,
-    weight: &[Ticks],
-    frame: Ticks,
-    load: Ticks,
-    pieces: &mut [Known],
-) -> Option<Ticks>
-    requires lent { Frame (length rows.now.heads.now) (λ i. (work_in rows.now i).period) frame.n × (frame.n ≤ max_ticks) × (load.n ≡ load_of (works_in rows.now) frame.n) × (load.n ≤ frame.n) }
-    requires weighed { Weighed (works_in rows.now) weight.now × (length rows.now.heads.now ≤ length pieces.old) }
-    ensures { LateAnswer (works_in rows.now) result }
+pub fn late(weighted: &Weighted, frame: Ticks, load: Ticks, pieces: &mut [Known]) -> Option<Ticks>
+    requires lent { Frame (length weighted.now.rows.now.heads.now) (λ i. (work_in weighted.now.rows.now i).period) frame.n × (frame.n ≤ max_ticks) × (load.n ≡ load_of (works_in weighted.now.rows.now) frame.n) × (load.n ≤ frame.n) }
+    requires scratch { length weighted.now.rows.now.heads.now ≤ length pieces.old }
+    ensures { LateAnswer (works_in weighted.now.rows.now) result }
 {
-    let end = search_end(rows, weight, frame, load);
+    let rows = weighted.rows;
+    let end = search_end(weighted, frame, load);
     let first = first_window(rows.heads);
     blank(rows.graphs(), pieces);
-    match search(rows, LOOKS, end, first, &mut Whole { weight }, pieces) {
+    match search(rows, LOOKS, end, first, &mut Whole { weighted }, pieces) {
         Ok(found) => found,
         Err(Open) => far(rows, end, pieces),
     }

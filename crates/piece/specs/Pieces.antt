@@ -25,7 +25,7 @@ abbrev pub Stairs : Work → (each bottom from asks : ℕ) → Type 0
 Stairs w each bottom from asks = (n f : ℕ) → 0 < n → f + n * w.period ≡ from → bottom ≤ f
     → (n * each ≤ asks) × Span w f (f + w.period) (asks - n * each)
 
--- What is known of a graph where nothing is.
+-- What is said to stand past the end of the list.
 abbrev pub unknown : code.Known.Known
 unknown = record { piece = record { low = 0; high = 0; each = 0; behind = 0 }; from = 0; to = 0; asks = 0; bottom = 0 }
 

@@ -14,28 +14,12 @@ use Rattle.demand.specs.declared.rows.Head.{Head}
 use Rattle.demand.specs.declared.rows.Actor.{Actor}
 use Rattle.sdf.proofs.Numbers.{lt_or_ge}
 use Rattle.sheet.specs.Layout.{in_numbers}
-use Rattle.sheet.specs.Check.{actor_count, channel_count, sized, stretch}
-use Rattle.sheet.proofs.Walk.{sized_gives}
-use Rattle.sheet.proofs.Ranges.{stretch_numbers}
+use Rattle.sheet.specs.Check.{actor_count, sized, stretch, times_of}
+use Rattle.sheet.proofs.Ranges.{few_actors}
 use Rattle.ready.specs.Graphs.{Judged, judged}
 use Rattle.ready.specs.Rows.{Row, row_at}
 use Rattle.ready.specs.Ready.{Met, Headed, Placed}
 use Rattle.ready.proofs.Sound.{times_length}
-
--- The graph at the start of l is all there, and its counts are within bounds.
-pub all_there : (l : List ℕ) → sized l ≡ true → stretch in_numbers l ≤ length l → 6 + actor_count l + 5 * channel_count l ≤ length l
-all_there l counts whole = omega (arith, stretch_numbers l)
-
-pub fixed_there : (l : List ℕ) → sized l ≡ true → stretch in_numbers l ≤ length l → 6 ≤ length l
-fixed_there l counts whole = omega (arith, stretch_numbers l)
-
-pub few_actors : (l : List ℕ) → sized l ≡ true → actor_count l ≤ 32
-few_actors l counts = (sized_gives l counts).actors
-
-pub few_channels : (l : List ℕ) → sized l ≡ true → channel_count l ≤ 64
-few_channels l counts = (sized_gives l counts).channels
-
-pub ruleset graph_there = (all_there, fixed_there, few_actors, few_channels)
 
 -- The first n numbers of y are those of the actors of row k, where each is.
 row_numbers :
@@ -70,10 +54,10 @@ row_same n i before after h g each =
 -- The next actor's numbers are written.
 pub placed_turn :
     {l q s : List ℕ} {k v : ℕ} {before now : List Actor} {a : Actor} → Placed l q s k v before now → 32 * k + v < length now →
-    a.time.n ≡ get_or l (6 + v) 0 → a.repetition.n ≡ get_or q v 0 → a.skip.n ≡ get_or s v 0 →
+    a.time.n ≡ get_or (times_of l) v 0 → a.repetition.n ≡ get_or q v 0 → a.skip.n ≡ get_or s v 0 →
     Placed l q s k (v + 1) before (set now (32 * k + v) a)
 placed_turn {l} {q} {s} {k} {v} {before} {now} {a} p room time repetition skip = record {
-  time = each (λ (a : Actor). a.time.n) (λ i. get_or l (6 + i) 0) p.time time;
+  time = each (λ (a : Actor). a.time.n) (λ i. get_or (times_of l) i 0) p.time time;
   repetition = each (λ (a : Actor). a.repetition.n) (λ i. get_or q i 0) p.repetition repetition;
   skip = each (λ (a : Actor). a.skip.n) (λ i. get_or s i 0) p.skip skip;
   same = λ i h. get_or-set_other now (32 * k + v) i a no_actor (λ e. omega arith) ∙ p.same i h;
@@ -114,7 +98,7 @@ filled {l} {q} {s} {heads} {head} {before} {actors} {k} counts whole m h_room ro
         count = rw d (h.actors ∙ sym e);
         times =
             rw e
-            (row_numbers (λ (a : Actor). a.time.n) n k actors (drop 6 l) r_room e (λ v m. p.time v m ∙ sym (get_or-drop 6 l v 0)));
+            (row_numbers (λ (a : Actor). a.time.n) n k actors (drop 6 l) r_room e (λ v m. p.time v m ∙ get_or-take n (drop 6 l) v 0 m));
         repetition = rw e (row_numbers (λ (a : Actor). a.repetition.n) n k actors q r_room m.repetition.each p.repetition);
         skips = rw e (row_numbers (λ (a : Actor). a.skip.n) n k actors s r_room m.skips.each p.skip);
       };

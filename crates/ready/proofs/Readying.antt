@@ -1,6 +1,5 @@
 -- 01, Order, second walk: graph after graph is judged and its numbers put into their places; then the frame.
 use mathlib.Core.Path.{◌≡◌, refl, sym, subst, ◌∙◌}
-use mathlib.Core.Bool.{true}
 use mathlib.Core.Logic.{⊎_elim}
 use mathlib.Core.List.{List, [], ◌∷◌, ◌++◌}
 use Prim.Native.Nat.{ℕ, suc, ◌+◌, ◌-◌, ◌<◌, ◌≤◌}
@@ -20,10 +19,10 @@ use Rattle.demand.specs.declared.rows.Head.{Head}
 use Rattle.demand.specs.declared.rows.Actor.{Actor}
 use Rattle.sheet.specs.declared.Refusal.{Refusal}
 use Rattle.sheet.specs.declared.Refusal.TheVariants.{Frame}
-use Rattle.sheet.specs.Layout.{in_numbers, largest_graph}
-use Rattle.sheet.specs.Check.{sized, stretch, first_walk, check_list}
+use Rattle.sheet.specs.Layout.{in_numbers}
+use Rattle.sheet.specs.Check.{stretch, first_walk, check_list}
 use Rattle.sheet.proofs.Walk.{Passed, sized_gives, part_is_drop, walk_on}
-use Rattle.sheet.proofs.Ranges.{next_of, stretch_numbers, list_on}
+use Rattle.sheet.proofs.Ranges.{next_of}
 use Rattle.ready.specs.Graphs.{Judged, judged, nothing, work_of}
 use Rattle.ready.specs.Lines.{Outcome, refused, ready, fail, meet, graph_lines, frame_line, second_walk, list_lines}
 use Rattle.ready.specs.Rows.{Row, Rows, Prepares}
@@ -44,10 +43,6 @@ all_and P js j all one i h =
     let e : i ≡ length js = omega (arith, length-append js (j ∷ [])) in
     rw (e, get_or_at js j [] nothing (length js) refl) one)
     (lt_or_ge i (length js))
-
--- The graph to come is all there, its counts are within bounds, and it takes up no more than the largest graph.
-abbrev pub Next : List ℕ → Type 0
-Next rest = (sized rest ≡ true) × (stretch in_numbers rest ≤ length rest) × (stretch in_numbers rest ≤ largest_graph)
 
 -- The second walk over the n graphs of l has come to graph k, at the start of rest: those before it stand in their places.
 pub record Readying (n : ℕ) (l : List ℕ) (k : ℕ) (rest : List ℕ) (heads : List Head) (actors : List Actor) : Type 0 where
@@ -80,13 +75,8 @@ module _
   turned = omega arith
 
   -- The graph to come has passed the first walk, and so have those behind it.
-  walked : Passed in_numbers rest × (first_walk in_numbers (n - suc k) (suc k) (drop (stretch in_numbers rest) rest) ≡ Ok tt)
+  pub walked : Passed in_numbers rest × (first_walk in_numbers (n - suc k) (suc k) (drop (stretch in_numbers rest) rest) ≡ Ok tt)
   walked = walk_on in_numbers (n - suc k) k rest (rw turned at w.walk)
-
-  pub next_there : Next rest
-  next_there =
-      let (p, _) = walked in
-      (p.counts, p.whole, omega (arith, stretch_numbers rest, sized_gives rest p.counts))
 
   turn_lines :
       (o : Outcome) →
@@ -101,13 +91,13 @@ module _
 
   -- A graph that stands ready leaves it to those behind it.
   pub readying_turn :
-      {heads' : List Head} {actors' : List Actor} {q s : List ℕ} {m : ℕ} → n ≤ 8 → 256 ≤ length actors → length actors' ≡ length actors →
-      Met rest q s → Filled (judged rest q s) k heads heads' actors actors' → m ≡ stretch in_numbers rest →
-      Readying n l (k + 1) (next_of rest m) heads' actors'
-  readying_turn {heads'} {actors'} {q} {s} few room d met placed e =
+      {heads' : List Head} {actors' : List Actor} {q s : List ℕ} → n ≤ 8 → 256 ≤ length actors → length actors' ≡ length actors →
+      Met rest q s → Filled (judged rest q s) k heads heads' actors actors' →
+      Readying n l (k + 1) (drop (stretch in_numbers rest) rest) heads' actors'
+  readying_turn {heads'} {actors'} {q} {s} few room d met placed =
       let p : Passed in_numbers rest = walked.0 in
       let j : Judged = judged rest q s in
-      rw (e, part_is_drop, add-one k) (record {
+      rw add-one (record {
         walk = walked.1;
         js = w.js ++ (j ∷ []);
         count = simp (length-append, w.count) (omega arith);
@@ -135,10 +125,6 @@ unfolding second_walk
 readying_end {n} {l} {k} w h =
     let e : n - k ≡ 0 = omega arith in
     (w.js, w.count ∙ sym h, w.filled, λ o f. w.lines o (rw e f))
-
--- An unpacked form that answers 3 to 5 pass is not empty.
-pub passed_inside : (l : List ℕ) → check_list l ≡ Ok tt → 1 ≤ length l
-passed_inside l e = (list_on l e).inside
 
 -- Answers 3 to 5.
 pub prepares_no : (l : List ℕ) {r : Refusal} → check_list l ≡ Err r → list_lines l (refused r)
@@ -192,7 +178,7 @@ module _
       Prepares l (Ok (record { graphs = get_or l 0 0; frame = f })) heads actors
   prepares_ready f (a, b) =
       let (js, count, filled, lines) = walked in
-      (js, prepares_walk l _ checked (lines _ (framed (get_or l 0 0) count filled room f.n a b)), count, filled)
+      (refl, js, prepares_walk l _ checked (lines _ (framed (get_or l 0 0) count filled room f.n a b)), count, filled)
 
   pub prepares_frame : ((F : ℕ) → HeadsFrame (get_or l 0 0) heads F → max_ticks < F) → list_lines l (refused Frame)
   prepares_frame none =

@@ -2,9 +2,9 @@
 use mathlib.Core.Path.{◌≡◌, refl, sym}
 use mathlib.Core.Bool.{true, false}
 use mathlib.Core.List.{List}
-use Prim.Native.Nat.{ℕ, ◌+◌, ◌-◌, ◌*◌, ◌<◌, ◌≤◌}
+use Prim.Native.Nat.{ℕ, ◌<◌, ◌≤◌}
 use native.Mathlib.Omega.{arith}
-use lib.ListN.{length, take, drop}
+use lib.ListN.{length, take}
 use lib.Seq.{length-take-le, get_or-take}
 use Rattle.std.specs.Prelude.{Result, Ok, Err}
 use Rattle.std.specs.Result.{MatchResult, IsErrAnd}
@@ -22,10 +22,10 @@ use Rattle.sheet.specs.declared.Refusal.TheVariants.{Range}
 use Rattle.sheet.specs.Answer.{Answer}
 use Rattle.sheet.specs.Layout.{in_numbers}
 use Rattle.sheet.specs.Fields.{in_range}
-use Rattle.sheet.specs.Check.{actor_count, channel_count, sized, stretch}
+use Rattle.sheet.specs.Check.{actor_count, sized, stretch}
 use Rattle.sheet.specs.Forms.{layout_of}
 use Rattle.sheet.proofs.Walk.{sized_gives}
-use Rattle.ready.specs.Graphs.{Judged, channels_of, drawn, judged, RepetitionNumbers, SkipNumbers}
+use Rattle.ready.specs.Graphs.{Judged, drawn, judged, RepetitionNumbers, SkipNumbers}
 use Rattle.ready.specs.Lines.{Outcome, Unless, fail, meet, With, given, graph_lines}
 use Rattle.ready.specs.Ready.{refusal_of, Met, Refuses, Says}
 use Rattle.ready.proofs.Sound.{drawn_sound}
@@ -70,14 +70,6 @@ met_lines o k l below {q} {s} m b =
 pub says_range : (k : ℕ) (l : List ℕ) → in_range (layout_of l) l ≡ false → Refuses k l (Range k)
 unfolding graph_lines
 says_range k l e = fail (λ d. let z : ◌≡◌ {A = ℕ} 0 1 = cc in omega arith) refl
-
--- The numbers of the channels stand behind those of the actors.
-pub channels_part :
-    (l : List ℕ) → let first = 6 + actor_count l in take (first + 5 * channel_count l - first) (drop first l) ≡ channels_of l
-channels_part l =
-    let first : ℕ = 6 + actor_count l in
-    let e : first + 5 * channel_count l - first ≡ 5 * channel_count l = omega arith in
-    rw e
 
 module _ (g : Graph) (sound : Sound g) (x : List ℕ) (room : g.actors ≤ length x) where
   each : length (take g.actors x) ≡ g.actors

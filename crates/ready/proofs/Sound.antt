@@ -19,11 +19,11 @@ use Rattle.trial.specs.Flat.{vector, Drawn}
 use Rattle.sheet.specs.Field.{Field}
 use Rattle.sheet.specs.Layout.{none, fixed_part, channel_part, total, in_numbers}
 use Rattle.sheet.specs.Fields.{in_range}
-use Rattle.sheet.specs.Check.{actor_count, channel_count, sized, stretch}
+use Rattle.sheet.specs.Check.{actor_count, channel_count, sized, stretch, times_of, channels_of}
 use Rattle.sheet.specs.Forms.{layout_of}
 use Rattle.sheet.proofs.Walk.{and_true, sized_gives}
 use Rattle.sheet.proofs.GraphLayout.{layout_numbers, layout_length, layout_fixed, layout_actor, layout_channel}
-use Rattle.ready.specs.Graphs.{times_of, channels_of, drawn, judged, RepetitionNumbers, SkipNumbers, work_of}
+use Rattle.ready.specs.Graphs.{drawn, judged, RepetitionNumbers, SkipNumbers, work_of}
 
 -- A field's number is within its bounds.
 abbrev Inside : Field → ℕ → Type 0

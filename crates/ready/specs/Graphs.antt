@@ -1,21 +1,14 @@
 -- 01, The sheet: one graph of the unpacked form, and what judging it finds.
-use Rattle.std.specs.Prelude.{◌≡◌, List, [], ℕ, zero, suc, ◌+◌, ◌*◌, length, get_or, take, drop}
+use Rattle.std.specs.Prelude.{◌≡◌, List, [], ℕ, zero, suc, length, get_or, drop}
 use Rattle.sdf.specs.Graph.{Graph}
 use Rattle.sdf.specs.Balance.{Repetition}
 use Rattle.sdf.specs.Skip.{Skips}
 use Rattle.edf.specs.Demand.{Work, Works}
 use Rattle.trial.specs.Flat.{graph_of, vector}
 use Rattle.sheet.specs.Layout.{in_numbers}
-use Rattle.sheet.specs.Check.{actor_count, channel_count, stretch}
+use Rattle.sheet.specs.Check.{actor_count, stretch, times_of, channels_of}
 
--- The graph at the start of l: actor count, channel count, input, output, T, D; a worst-case time for each actor; five numbers for
--- each channel.
-abbrev pub times_of : List ℕ → List ℕ
-times_of l = take (actor_count l) (drop 6 l)
-
-abbrev pub channels_of : List ℕ → List ℕ
-channels_of l = take (5 * channel_count l) (drop (6 + actor_count l) l)
-
+-- The graph at the start of l.
 abbrev pub drawn : List ℕ → Graph
 drawn l = graph_of (actor_count l) (get_or l 2 0) (get_or l 3 0) (channels_of l)
 

@@ -14,7 +14,7 @@ use Rattle.sheet.specs.declared.Refusal.{Refusal}
 use Rattle.sheet.specs.declared.Refusal.TheVariants.{Reach, Balance, NotOnce, Deadlock, Restless}
 use Rattle.sheet.specs.Answer.{Answer}
 use Rattle.sheet.specs.Fields.{in_range}
-use Rattle.sheet.specs.Check.{actor_count}
+use Rattle.sheet.specs.Check.{actor_count, times_of}
 use Rattle.sheet.specs.Forms.{layout_of}
 use Rattle.ready.specs.Graphs.{Judged, drawn, RepetitionNumbers, SkipNumbers}
 use Rattle.ready.specs.Lines.{Outcome, refused, graph_lines, frame_line, second_walk}
@@ -56,7 +56,7 @@ pub record Headed (l : List ℕ) (head : Head) : Type 0 where
 
 -- Worst-case times, repetition numbers and skips of its first n actors stand in row k, and the rows before it are as they were.
 pub record Placed (l q s : List ℕ) (k n : ℕ) (before after : List Actor) : Type 0 where
-  pub time : (v : ℕ) → v < n → (get_or after (32 * k + v) no_actor).time.n ≡ get_or l (6 + v) 0
+  pub time : (v : ℕ) → v < n → (get_or after (32 * k + v) no_actor).time.n ≡ get_or (times_of l) v 0
   pub repetition : (v : ℕ) → v < n → (get_or after (32 * k + v) no_actor).repetition.n ≡ get_or q v 0
   pub skip : (v : ℕ) → v < n → (get_or after (32 * k + v) no_actor).skip.n ≡ get_or s v 0
   pub same : (i : ℕ) → i < 32 * k → get_or after i no_actor ≡ get_or before i no_actor

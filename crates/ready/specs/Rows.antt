@@ -34,4 +34,4 @@ pub record Rows (js : List Judged) (heads : List Head) (actors : List Actor) : T
 abbrev pub Prepares : List ℕ → Result Ready Refusal → List Head → List Actor → Type 0
 Prepares l (Err r) heads actors = list_lines l (refused r)
 Prepares l (Ok p) heads actors =
-    (js : List Judged) × list_lines l (ready js p.frame.n) × (length js ≡ p.graphs) × Rows js heads actors
+    (p.graphs ≡ get_or l 0 0) × (js : List Judged) × list_lines l (ready js p.frame.n) × (length js ≡ p.graphs) × Rows js heads actors

@@ -1,8 +1,8 @@
 // Answers 3 to 12 of an unpacked form. Without a refusal, every graph's period, deadline and actor count stand in `heads`, and the
 // worst-case times, repetition numbers and skips of its actors in a row of `actors`.
-ghost use Rattle.std.specs.Prelude.{◌≡◌, true, ◌*◌, ◌+◌, ◌<◌, ◌≤◌, length, Ok};
+ghost use Rattle.std.specs.Prelude.{◌≡◌, ◌<◌, ◌≤◌, length, Ok};
 ghost use Rattle.sheet.specs.Layout.{in_numbers};
-ghost use Rattle.sheet.specs.Check.{actor_count, sized, stretch, first_walk};
+ghost use Rattle.sheet.specs.Check.{actor_count, first_walk};
 ghost use Rattle.ready.specs.Rows.{Prepares};
 ghost use Rattle.ready.specs.Ready.{refusal_of, Says, Headed, Placed, Walked};
 
@@ -10,8 +10,9 @@ use super::Ready;
 use demand::frame;
 use demand::rows::{Actor, Head};
 use graph::Fault;
+use repeat::draw::Neighbours;
 use sheet::Refusal;
-use sheet::range::stretch;
+use sheet::graph::Graph;
 use trial::net::Net;
 use units::{Count, Firings, Ticks};
 
@@ -32,7 +33,7 @@ const LINKS: usize = ROOM + CHANNELS;
 struct Scratch {
     q: [u64; ROOM],
     s: [u64; ROOM],
-    words: [u64; 3 * ROOM],
+    neighbours: [Neighbours; ROOM],
     between: [u8; ROOM * ROOM],
     awaits: [u64; ROOM],
     kept: [u32; 5 * CHANNELS],
@@ -56,31 +57,25 @@ fn refusal(fault: Fault, k: u64) -> Refusal
     }
 }
 
-// Answers 6 to 11 for the graph numbered k at the start of l. Without a refusal its repetition numbers stand in `work.q` and its skips
-// in `work.s`.
-#[tactic(auto, using(crate::proofs::Places::graph_there))]
-fn numbers(l: &[u32], k: u64, work: &mut Scratch) -> Result<(), Refusal>
-    requires { (sized l.now ≡ true) × (stretch in_numbers l.now ≤ length l.now) }
-    ensures { Says k l.now result work.new.q work.new.s }
+// Answers 6 to 11 for the graph numbered k. Without a refusal its repetition numbers stand in `work.q` and its skips in `work.s`.
+#[tactic(auto, using(crate::proofs::Says::says_range))]
+fn numbers(graph: &Graph, k: u64, work: &mut Scratch) -> Result<(), Refusal>
+    ensures { Says k graph.now.numbers.now result work.new.q work.new.s }
 {
-    if !sheet::range::graph(l) {
+    if !graph.in_range() {
         return Err(Refusal::Range(k));
     }
-    let actors = l[0] as usize;
-    let first = 6 + actors;
-    let last = first + 5 * l[1] as usize;
     let net = Net {
-        actors,
-        input: l[2] as usize,
-        output: l[3] as usize,
-        channels: &l[first..last],
+        actors: graph.actors(),
+        input: graph.input(),
+        output: graph.output(),
+        channels: graph.channels(),
     };
-    let words = &mut work.words[..];
     graph::numbers(
         &net,
         &mut work.q,
         &mut work.s,
-        &mut words[..3 * actors],
+        &mut work.neighbours,
         &mut work.between,
         &mut work.awaits,
         &mut work.kept,
@@ -94,28 +89,26 @@ fn numbers(l: &[u32], k: u64, work: &mut Scratch) -> Result<(), Refusal>
     .map_err(|fault| refusal(fault, k))
 }
 
-// Period, deadline and actor count of the graph at the start of l.
-#[tactic(auto, using(crate::proofs::Places::graph_there))]
-fn head(l: &[u32]) -> Head
-    requires { (sized l.now ≡ true) × (stretch in_numbers l.now ≤ length l.now) }
-    ensures { Headed l.now result }
+fn head(graph: &Graph) -> Head
+    ensures { Headed graph.now.numbers.now result }
 {
     Head {
-        period: Ticks::of(l[4] as u64),
-        deadline: Ticks::of(l[5] as u64),
-        actors: l[0] as usize,
+        period: graph.period(),
+        deadline: graph.deadline(),
+        actors: graph.actors(),
     }
 }
 
 // Worst-case time, repetition number and skip of each of its actors, into row k.
-#[tactic(auto, using(crate::proofs::Places::graph_there))]
-fn row(l: &[u32], q: &[u64; ROOM], s: &[u64; ROOM], k: usize, actors: &mut [Actor])
-    requires { (sized l.now ≡ true) × (stretch in_numbers l.now ≤ length l.now) × (k < 8) × (256 ≤ length actors.old) }
-    ensures { Placed l.now q.now s.now k (actor_count l.now) actors.old actors.new }
+#[tactic(auto, using(crate::proofs::Places::placed_turn))]
+fn row(graph: &Graph, q: &[u64; ROOM], s: &[u64; ROOM], k: usize, actors: &mut [Actor])
+    requires { (k < 8) × (256 ≤ length actors.old) }
+    ensures { Placed graph.now.numbers.now q.now s.now k (actor_count graph.now.numbers.now) actors.old actors.new }
 {
-    for v in 0..l[0] as usize {
+    let times = graph.times();
+    for v in 0..graph.actors() {
         actors[ROOM * k + v] = Actor {
-            time: Ticks::of(l[6 + v] as u64),
+            time: Ticks::of(times[v] as u64),
             repetition: Firings::of(q[v]),
             skip: Firings::of(s[v]),
         };
@@ -131,7 +124,7 @@ fn walk(l: &[u32], n: usize, heads: &mut [Head], actors: &mut [Actor]) -> Result
     let mut work = Scratch {
         q: [0; ROOM],
         s: [0; ROOM],
-        words: [0; 3 * ROOM],
+        neighbours: [Neighbours::NOBODY; ROOM],
         between: [0; ROOM * ROOM],
         awaits: [0; ROOM],
         kept: [0; 5 * CHANNELS],
@@ -144,15 +137,16 @@ fn walk(l: &[u32], n: usize, heads: &mut [Head], actors: &mut [Actor]) -> Result
     };
     let mut rest = l;
     for k in 0..n {
-        numbers(rest, k as u64, &mut work)?;
-        heads[k] = head(rest);
-        row(rest, &work.q, &work.s, k, actors);
-        rest = &rest[stretch(rest)..];
+        let graph = Graph { numbers: rest };
+        numbers(&graph, k as u64, &mut work)?;
+        heads[k] = head(&graph);
+        row(&graph, &work.q, &work.s, k, actors);
+        rest = graph.behind();
     }
     Ok(())
 }
 
-#[tactic(auto, using(crate::proofs::Readying::passed_inside))]
+#[tactic(auto, using(sheet::proofs::Ranges::list_passed, crate::proofs::Readying::prepares_no))]
 pub fn list(l: &[u32], heads: &mut [Head], actors: &mut [Actor]) -> Result<Ready, Refusal>
     requires { (8 ≤ length heads.old) × (256 ≤ length actors.old) }
     ensures { Prepares l.now result heads.new actors.new }

@@ -14,7 +14,7 @@ use Rattle.std.specs.Prelude.{Ok, Err}
 use borrow.Author.Count.{below_more}
 use borrow.Author.Tests.{eqb-false, eqb-true}
 use Rattle.units.specs.Bounds.{max_repetition}
-use Rattle.sets.specs.Sets.{has, Covers, Below, Put, Marked, Gathers, word}
+use Rattle.sets.specs.Sets.{has, Covers, Below, Put, Marked, Gathers}
 use Rattle.sets.proofs.Bits.{has_none, has_small, has_bit}
 use Rattle.sets.proofs.Gather.{gather_start, gather_vector}
 use Rattle.sdf.specs.Graph.{Channel, Graph, Sound, Along, Reaches}
@@ -27,7 +27,8 @@ use Rattle.trial.specs.Flat.{vector}
 use Rattle.trial.specs.Read.{Read}
 use Rattle.trial.specs.Knot.{enough, waits, Awaits}
 use Rattle.trial.proofs.Places.{stored}
-use Rattle.repeat.specs.Words.{AllFrom, Joins, Words, Between}
+use Rattle.repeat.specs.Words.{AllFrom, Joins, heads_of, tails_of, Words, Between}
+use Rattle.repeat.specs.declared.draw.Neighbours.{Neighbours}
 use Rattle.repeat.specs.declared.repetition.Unnumbered.{Unnumbered}
 use Rattle.repeat.specs.Repetition.{Numbering, SettleAnswer, RepetitionAnswer, Numbered, LeastFactor, Multiples, Within, Grown, Extended, Even, Equal, Repeats}
 
@@ -247,33 +248,33 @@ grown_settled g (Err e) q awaits sound grown positive s = subst (λ (e : Unnumbe
 
 -- Whom the numbers stand at, and who is next: those known have a number, and those to do are the others whom a channel leads to from
 -- somebody known.
-pub record Growing (g : Graph) (words : List ℕ) (known todo : ℕ) (q : List ℕ) : Type 0 where
+pub record Growing (g : Graph) (neighbours : List Neighbours) (known todo : ℕ) (q : List ℕ) : Type 0 where
   pub grown : Grown g (vector q)
   pub counted : (v : ℕ) → v < g.actors → (has known v ≡ 1) ↔ (0 < vector q v)
   pub inside : Below known g.actors
   pub apart : (v : ℕ) → has todo v ≡ 1 → has known v ≡ 0
-  pub comes : (v : ℕ) → has todo v ≡ 1 → (t : ℕ) × (has known t ≡ 1) × (has (word words 0 t) v ≡ 1)
-  pub leads : (v w : ℕ) → has known v ≡ 1 → has (word words 0 v) w ≡ 1 → 0 < has known w + has todo w
+  pub comes : (v : ℕ) → has todo v ≡ 1 → (t : ℕ) × (has known t ≡ 1) × (has (heads_of neighbours t) v ≡ 1)
+  pub leads : (v w : ℕ) → has known v ≡ 1 → has (heads_of neighbours v) w ≡ 1 → 0 < has known w + has todo w
 
 -- With the input alone.
-pub growing_start : {g : Graph} {words : List ℕ} (q : List ℕ) {known todo : ℕ} → Sound g → g.input < length q → ((v : ℕ) → v < g.actors → vector q v ≡ 0)
-    → Put 0 g.input 1 known → ((v : ℕ) → has todo v ≡ has (word words 0 g.input) v - has known v) → Growing g words known todo (set q g.input 1)
-growing_start {g} {words} q {known} {todo} sound room none p t =
+pub growing_start : {g : Graph} {neighbours : List Neighbours} (q : List ℕ) {known todo : ℕ} → Sound g → g.input < length q → ((v : ℕ) → v < g.actors → vector q v ≡ 0)
+    → Put 0 g.input 1 known → ((v : ℕ) → has todo v ≡ has (heads_of neighbours g.input) v - has known v) → Growing g neighbours known todo (set q g.input 1)
+growing_start {g} {neighbours} q {known} {todo} sound room none p t =
     record {
       grown = grown_start g q room none;
       counted = λ v l. stored (λ v n. (has known v ≡ 1) ↔ (0 < n)) q g.input 1 room (λ _. omega arith, λ _. p.here) v (λ d. (λ h. absurd (d (alone v h)), λ h. absurd (omega (arith, none v l))));
       inside = λ v h. rw (alone v h) sound.input;
-      apart = λ v h. omega (arith, t v, has_small (word words 0 g.input) v);
-      comes = λ v h. (g.input, p.here, omega (arith, t v, has_small (word words 0 g.input) v));
+      apart = λ v h. omega (arith, t v, has_small (heads_of neighbours g.input) v);
+      comes = λ v h. (g.input, p.here, omega (arith, t v, has_small (heads_of neighbours g.input) v));
       leads = λ v w h l.
-          let m : has (word words 0 g.input) w ≡ 1 = subst (λ (v : ℕ). has (word words 0 v) w ≡ 1) (alone v h) l in
+          let m : has (heads_of neighbours g.input) w ≡ 1 = subst (λ (v : ℕ). has (heads_of neighbours v) w ≡ 1) (alone v h) l in
           omega (arith, t w);
     }
   where
     alone : (v : ℕ) → has known v ≡ 1 → v ≡ g.input
     alone v h = ⊎_elim (λ e. e) (λ d. absurd (omega (arith, p.there v d, has_none v))) (eq_or_ne v g.input)
 
-module _ {g : Graph} {words : List ℕ} {known todo : ℕ} {q : List ℕ} (sound : Sound g) (told : Words g words) (i : Growing g words known todo q) where
+module _ {g : Graph} {neighbours : List Neighbours} {known todo : ℕ} {q : List ℕ} (sound : Sound g) (told : Words g neighbours) (i : Growing g neighbours known todo q) where
   -- Who is to do is an actor.
   pub growing_actor : (h : ℕ) → has todo h ≡ 1 → h < g.actors
   growing_actor h o =
@@ -282,27 +283,27 @@ module _ {g : Graph} {words : List ℕ} {known todo : ℕ} {q : List ℕ} (sound
       subst (λ (v : ℕ). v < g.actors) c.3 (sound.head c.0 c.1)
 
   -- A channel comes to it from somebody known.
-  pub growing_some : (h both : ℕ) → has todo h ≡ 1 → ((v : ℕ) → has both v ≡ min (has (word words 1 h) v) (has known v)) → 0 < both
+  pub growing_some : (h both : ℕ) → has todo h ≡ 1 → ((v : ℕ) → has both v ≡ min (has (tails_of neighbours h) v) (has known v)) → 0 < both
   growing_some h both o m =
       let t = i.comes h o in
       let c = told.heads.comes t.0 h (i.inside t.0 t.1) t.2 in
-      let s : has (word words 1 (g.channel c.0).head) (g.channel c.0).tail ≡ 1 = told.tails.holds c.0 c.1 refl in
-      let w : has (word words 1 h) t.0 ≡ 1 = rw (c.2, c.3) at s in
+      let s : has (tails_of neighbours (g.channel c.0).head) (g.channel c.0).tail ≡ 1 = told.tails.holds c.0 c.1 refl in
+      let w : has (tails_of neighbours h) t.0 ≡ 1 = rw (c.2, c.3) at s in
       ⊎_elim
       (λ (z : both ≡ 0). absurd (omega (arith, m t.0, t.1, ap (λ (x : ℕ). has x t.0) z, has_none t.0)))
       (λ p. p)
       (eq-zero-or-pos both)
 
   -- By the channel that stands for the two of them.
-  pub growing_joins : (between : List ℕ) → Between g words between → (h t both : ℕ) → has todo h ≡ 1 → ((v : ℕ) → has both v ≡ min (has (word words 1 h) v) (has known v)) → has both t ≡ 1
+  pub growing_joins : (between : List ℕ) → Between g neighbours between → (h t both : ℕ) → has todo h ≡ 1 → ((v : ℕ) → has both v ≡ min (has (tails_of neighbours h) v) (has known v)) → has both t ≡ 1
       → (t < g.actors) × Joins g (get_or between (g.actors * t + h) 0) t h × (0 < vector q t) × (vector q h ≡ 0)
   growing_joins between pairs h t both o m b =
-      let k : has known t ≡ 1 = omega (arith, m t, has_small known t, has_small (word words 1 h) t) in
+      let k : has known t ≡ 1 = omega (arith, m t, has_small known t, has_small (tails_of neighbours h) t) in
       let lt : t < g.actors = i.inside t k in
       let lh : h < g.actors = growing_actor h o in
-      let c = told.tails.comes h t lh (omega (arith, m t, has_small known t, has_small (word words 1 h) t)) in
-      let s : has (word words 0 (g.channel c.0).tail) (g.channel c.0).head ≡ 1 = told.heads.holds c.0 c.1 refl in
-      let w : has (word words 0 t) h ≡ 1 = rw (c.2, c.3) at s in (
+      let c = told.tails.comes h t lh (omega (arith, m t, has_small known t, has_small (tails_of neighbours h) t)) in
+      let s : has (heads_of neighbours (g.channel c.0).tail) (g.channel c.0).head ≡ 1 = told.heads.holds c.0 c.1 refl in
+      let w : has (heads_of neighbours t) h ≡ 1 = rw (c.2, c.3) at s in (
         lt,
         pairs t h lt lh w,
         (i.counted t lt).0 k,
@@ -311,7 +312,7 @@ module _ {g : Graph} {words : List ℕ} {known todo : ℕ} {q : List ℕ} (sound
 
   -- Once it has its number it is known, and those that it leads to are to do.
   pub growing_turn : {h c known' todo' : ℕ} (both : ℕ) {q' : List ℕ} → has todo h ≡ 1 → (g.channel c).head ≡ h → Extended g c q q' → Put known h (max (has known h) 1) known'
-      → ((v : ℕ) → has both v ≡ max (has todo v) (has (word words 0 h) v)) → ((v : ℕ) → has todo' v ≡ has both v - has known' v) → Growing g words known' todo' q'
+      → ((v : ℕ) → has both v ≡ max (has todo v) (has (heads_of neighbours h) v)) → ((v : ℕ) → has todo' v ≡ has both v - has known' v) → Growing g neighbours known' todo' q'
   growing_turn {h} {c} {known'} {todo'} both {q'} o at x p b t =
       record {
         grown = x.grown;
@@ -323,14 +324,14 @@ module _ {g : Graph} {words : List ℕ} {known todo : ℕ} {q : List ℕ} (sound
             ))
             (eq_or_ne v h);
         inside = λ v k. ⊎_elim (λ (e : v ≡ h). rw e (growing_actor h o)) (λ d. i.inside v (omega (arith, p.there v d))) (eq_or_ne v h);
-        apart = λ v k. omega (arith, t v, b v, has_small todo v, has_small (word words 0 h) v);
+        apart = λ v k. omega (arith, t v, b v, has_small todo v, has_small (heads_of neighbours h) v);
         comes = λ v k. ⊎_elim
-            (λ z. (h, here, omega (arith, t v, b v, has_small (word words 0 h) v)))
+            (λ z. (h, here, omega (arith, t v, b v, has_small (heads_of neighbours h) v)))
             (λ m. let u = i.comes v m in (u.0, kept u.0 u.1, u.2))
             (has_bit todo v);
         leads = λ v w k l. ⊎_elim
             (λ (e : v ≡ h).
-            let m : has (word words 0 h) w ≡ 1 = subst (λ (v : ℕ). has (word words 0 v) w ≡ 1) e l in
+            let m : has (heads_of neighbours h) w ≡ 1 = subst (λ (v : ℕ). has (heads_of neighbours v) w ≡ 1) e l in
             omega (arith, t w, b w))
             (λ d. more w (i.leads v w (omega (arith, p.there v d)) l))
             (eq_or_ne v h);

@@ -1,8 +1,23 @@
--- What one pass over the channels of a graph tells, in sets of actors: three words for each actor.
-use Rattle.std.specs.Prelude.{◌≡◌, Bool, true, List, ℕ, ◌+◌, ◌*◌, ◌<◌, ltb, length, get_or}
-use Rattle.sets.specs.Sets.{has, word, Gathers}
+-- What one pass over the channels of a graph tells, in sets of actors: three for each actor.
+use Rattle.std.specs.Prelude.{◌≡◌, Bool, true, List, ℕ, ◌+◌, ◌*◌, ◌<◌, ◌≤◌, ltb, length, get_or}
+use Rattle.sets.specs.Sets.{has, Gathers}
 use Rattle.sdf.specs.Graph.{Graph, Reaches}
 use Rattle.sdf.specs.Skip.{Skippable}
+use Rattle.repeat.specs.declared.draw.Neighbours.{Neighbours}
+
+abbrev pub nobody : Neighbours
+nobody = record { heads = 0; tails = 0; tied = 0 }
+
+-- What stands in the list for an actor: the heads of the channels out of it, the tails of those into it, and the tails that are tied
+-- to it.
+abbrev pub heads_of : List Neighbours → ℕ → ℕ
+heads_of neighbours v = (get_or neighbours v nobody).heads
+
+abbrev pub tails_of : List Neighbours → ℕ → ℕ
+tails_of neighbours v = (get_or neighbours v nobody).tails
+
+abbrev pub tied_of : List Neighbours → ℕ → ℕ
+tied_of neighbours v = (get_or neighbours v nobody).tied
 
 -- Channel c leads from t to h.
 abbrev pub Joins : Graph → ℕ → ℕ → ℕ → Type 0
@@ -16,16 +31,16 @@ tied g c = ltb (g.channel c).tokens (g.channel c).produce
 abbrev pub keeps : Graph → ℕ → Bool
 keeps g c = ltb (g.channel c).tokens (g.channel c).consume
 
--- An actor's words: the heads of the channels out of it, the tails of those into it, and the tails of those of them that are tied.
-pub record Words (g : Graph) (words : List ℕ) : Type 0 where
-  pub room : length words ≡ 3 * g.actors
-  pub heads : Gathers g.actors g.channels (λ c. (g.channel c).tail) (λ c. (g.channel c).head) (λ _. true) (word words 0)
-  pub tails : Gathers g.actors g.channels (λ c. (g.channel c).head) (λ c. (g.channel c).tail) (λ _. true) (word words 1)
-  pub tied : Gathers g.actors g.channels (λ c. (g.channel c).head) (λ c. (g.channel c).tail) (tied g) (word words 2)
+-- The list has every actor's neighbours by the channels.
+pub record Words (g : Graph) (neighbours : List Neighbours) : Type 0 where
+  pub room : g.actors ≤ length neighbours
+  pub heads : Gathers g.actors g.channels (λ c. (g.channel c).tail) (λ c. (g.channel c).head) (λ _. true) (heads_of neighbours)
+  pub tails : Gathers g.actors g.channels (λ c. (g.channel c).head) (λ c. (g.channel c).tail) (λ _. true) (tails_of neighbours)
+  pub tied : Gathers g.actors g.channels (λ c. (g.channel c).head) (λ c. (g.channel c).tail) (tied g) (tied_of neighbours)
 
 -- For every pair of actors that a channel joins there stands such a channel.
-abbrev pub Between : Graph → (words between : List ℕ) → Type 0
-Between g words between = (t h : ℕ) → t < g.actors → h < g.actors → has (word words 0 t) h ≡ 1 → Joins g (get_or between (g.actors * t + h) 0) t h
+abbrev pub Between : Graph → List Neighbours → List ℕ → Type 0
+Between g neighbours between = (t h : ℕ) → t < g.actors → h < g.actors → has (heads_of neighbours t) h ≡ 1 → Joins g (get_or between (g.actors * t + h) 0) t h
 
 -- The set of those that a channel keeps from firing in the initial tokens.
 abbrev pub KeptBack : Graph → ℕ → Type 0

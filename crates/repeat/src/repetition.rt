@@ -10,10 +10,9 @@ ghost use Rattle.trial.specs.Read.{Read, seen};
 ghost use Rattle.sets.specs.Decides.{Decides};
 ghost use Rattle.trial.specs.Links.{heads, tails};
 ghost use Rattle.trial.specs.Knot.{enough, Awaits};
-ghost use Rattle.repeat.specs.Words.{Words, Between};
 ghost use Rattle.repeat.specs.Repetition.{LeastFactor, ScaleAnswer, Grown, Extends, GrowAnswer, SettleAnswer, RepetitionAnswer};
 
-use super::draw::{HEADS, TAILS};
+use super::chart::Chart;
 use sets::{clear, common, covers, joined, least, mark, minus, only, with};
 use trial::channel::Channel;
 use trial::net::Net;
@@ -133,29 +132,25 @@ fn note(met: &mut [u64], n: usize, v: usize) -> usize {
 }
 
 // Numbers for all actors that the input reaches, from 1 at the input. They come into `met` in the order in which they are met.
-fn grow(
-    net: &Net,
-    words: &[u64],
-    between: &[u8],
-    q: &mut [u64],
-    met: &mut [u64],
-) -> Result<(), Unnumbered>
-    requires { Words (net_graph net.now) words.now × Between (net_graph net.now) words.now between.now × (net.now.actors ≤ length q.old) × (net.now.actors * net.now.actors ≤ length between.now) }
-    ensures { GrowAnswer (net_graph net.now) result q.new }
+fn grow(chart: &Chart, q: &mut [u64], met: &mut [u64]) -> Result<(), Unnumbered>
+    requires { (chart.now.net.now.actors ≤ length q.old) × (chart.now.net.now.actors * chart.now.net.now.actors ≤ length chart.now.between.now) }
+    ensures { GrowAnswer (net_graph chart.now.net.now) result q.new }
 {
+    let net = chart.net;
+    let neighbours = chart.neighbours;
     clear(net.actors, q);
     q[net.input] = 1;
     let mut known = only(net.input);
-    let mut todo = minus(words[3 * net.input + HEADS], known);
+    let mut todo = minus(neighbours[net.input].heads, known);
     let mut n = note(met, 0, net.input);
     while todo != 0 {
         let head = least(todo);
-        let tail = least(common(words[3 * head + TAILS], known));
-        let c = between[net.actors * tail + head] as usize;
+        let tail = least(common(neighbours[head].tails, known));
+        let c = chart.between[net.actors * tail + head] as usize;
         extend(net, c, q)?;
         n = note(met, n, head);
         known = with(known, head, true);
-        todo = minus(joined(todo, words[3 * head + HEADS]), known);
+        todo = minus(joined(todo, neighbours[head].heads), known);
     }
     if !covers(known, net.actors) {
         return Err(Unnumbered::Unreached);
@@ -194,16 +189,14 @@ fn settle(net: &Net, q: &[u64], awaits: &mut [u64]) -> Result<(), Unnumbered>
 
 // The repetition numbers, into q. That the input reaches every actor comes with them, and for whom each actor has to wait.
 pub fn repetition(
-    net: &Net,
-    words: &[u64],
-    between: &[u8],
+    chart: &Chart,
     q: &mut [u64],
     awaits: &mut [u64],
     met: &mut [u64],
 ) -> Result<(), Unnumbered>
-    requires { Words (net_graph net.now) words.now × Between (net_graph net.now) words.now between.now × (net.now.actors ≤ length q.old) × (net.now.actors * net.now.actors ≤ length between.now) × (net.now.actors ≤ length awaits.old) }
-    ensures { RepetitionAnswer (net_graph net.now) result q.new awaits.new }
+    requires { (chart.now.net.now.actors ≤ length q.old) × (chart.now.net.now.actors * chart.now.net.now.actors ≤ length chart.now.between.now) × (chart.now.net.now.actors ≤ length awaits.old) }
+    ensures { RepetitionAnswer (net_graph chart.now.net.now) result q.new awaits.new }
 {
-    grow(net, words, between, q, met)?;
-    settle(net, q, awaits)
+    grow(chart, q, met)?;
+    settle(chart.net, q, awaits)
 }

@@ -3,11 +3,12 @@ use mathlib.Core.Path.{◌≡◌, refl, sym, ap, ◌∙◌, subst}
 use mathlib.Core.Bool.{Bool, true, false, cond, true≢false}
 use mathlib.Core.Logic.{◌⊎◌, inl, inr, ⊎_elim, ◌≢◌}
 use mathlib.Core.List.{List}
-use Prim.Native.Nat.{ℕ, suc, ◌+◌, ◌*◌, ◌<◌, max}
+use Prim.Native.Nat.{ℕ, zero, suc, ◌+◌, ◌<◌, max}
 use native.Mathlib.Omega.{arith}
 use native.Mathlib.Numerals.{add-one}
+use Rattle.std.proofs.lemmas.Grind.{not_there}
 use Rattle.sdf.proofs.Numbers.{eq_or_ne}
-use Rattle.sets.specs.Sets.{has, Below, Put, Marked, word, Gathers}
+use Rattle.sets.specs.Sets.{has, Below, Put, Marked, Gathers}
 use Rattle.sets.specs.Vector.{vector}
 use Rattle.sets.proofs.Bits.{has_none, has_small}
 
@@ -101,32 +102,6 @@ gather_same {at = at} {of = of} g e =
 pub gather_below : {room n : ℕ} {at of : ℕ → ℕ} {picked : ℕ → Bool} {set : ℕ → ℕ} (m : ℕ) → Gathers room n at of picked set → ((i : ℕ) → i < n → of i < m) → (v : ℕ) → v < room → Below (set v) m
 gather_below m g b v l w h = let c = g.comes v w l h in subst (λ (x : ℕ). x < m) c.3 (b c.0 c.1)
 
--- What a mark at one of the three words of each actor does to the words.
-pub record WordMarked (k a v bit : ℕ) (before after : List ℕ) : Type 0 where
-  pub put : Put (word before k a) v (max (has (word before k a) v) bit) (word after k a)
-  pub others : (w : ℕ) → w ≢ a → word after k w ≡ word before k w
-  pub rest : (j w : ℕ) → j < 3 → j ≢ k → word after j w ≡ word before j w
-
--- A mark at word k of actor a.
-pub marked_word : (k a : ℕ) {p v bit : ℕ} {before after : List ℕ} → k < 3 → p ≡ 3 * a + k → Marked p v bit before after → WordMarked k a v bit before after
-marked_word k a {p} {v} {bit} {before} {after} l e m =
-    let n : Marked (3 * a + k) v bit before after = subst (λ (x : ℕ). Marked x v bit before after) e m in
-    record {
-      put = n.put;
-      others = λ w d. n.kept (3 * w + k) (λ q. d (omega arith));
-      rest = λ j w b d. n.kept (3 * w + j) (λ q. d (omega arith));
-    }
-
--- One entry more, gathered in words k.
-pub gather_word : {room n : ℕ} {at of : ℕ → ℕ} {picked : ℕ → Bool} {before after : List ℕ} (k p : ℕ) → k < 3 → p ≡ 3 * at n + k
-    → Gathers room n at of picked (word before k) → Marked p (of n) (cond (picked n) 1 0) before after → Gathers room (n + 1) at of picked (word after k)
-gather_word {n = n} {at = at} k p l e g m = let w = marked_word k (at n) l e m in gather_next g w.put w.others
-
--- A mark at a word k changes nothing of what is gathered in words j.
-pub gather_word_other : {room n : ℕ} {at of : ℕ → ℕ} {picked : ℕ → Bool} {before after : List ℕ} (k j a p : ℕ) {v bit : ℕ} → k < 3 → j < 3 → j ≢ k → p ≡ 3 * a + k
-    → Gathers room n at of picked (word before j) → Marked p v bit before after → Gathers room n at of picked (word after j)
-gather_word_other k j a p l b d e g m = let w = marked_word k a l e m in gather_same g (λ u. w.rest j u b d)
-
 -- One entry more, gathered in a list with one word for each actor.
 pub gather_vector : {room n : ℕ} {at of : ℕ → ℕ} {picked : ℕ → Bool} {before after : List ℕ}
     → Gathers room n at of picked (vector before) → Marked (at n) (of n) (cond (picked n) 1 0) before after → Gathers room (n + 1) at of picked (vector after)
@@ -136,3 +111,36 @@ gather_vector g m = gather_next g m.put m.kept
 pub gather_single : {n : ℕ} {of : ℕ → ℕ} {picked : ℕ → Bool} {set set' : ℕ}
     → Gathers 1 n (λ _. 0) of picked (λ _. set) → Put set (of n) (max (has set (of n)) (cond (picked n) 1 0)) set' → Gathers 1 (n + 1) (λ _. 0) of picked (λ _. set')
 gather_single g p = gather_plus (gather_turn_within (λ i l. omega arith) g p (λ v l d. absurd (d (omega arith))))
+
+-- A place below n at which P holds, or that it holds at none of them. Whether it holds can be asked at each.
+look_for : (P : ℕ → Type 0) → ((i : ℕ) → P i ⊎ (¬ P i)) → (n : ℕ) → ((i : ℕ) × (i < n) × P i) ⊎ ((i : ℕ) → i < n → ¬ P i)
+look_for P ask zero = inr (λ i l. absurd (omega arith))
+look_for P ask (suc n) = ⊎_elim
+    (λ f. inl (f.0, omega (arith, f.1), f.2))
+    (λ none. ⊎_elim
+    (λ (p : P n). inl (n, omega arith, p))
+    (λ no. inr (λ i l. ⊎_elim (λ (e : i ≡ n). subst (λ (x : ℕ). ¬ P x) (sym e) no) (λ d. none i (omega (arith, d))) (eq_or_ne i n)))
+    (ask n))
+    (look_for P ask n)
+
+-- Whether entry i is picked, and says that w is in the set of v.
+ask_entry : (at of : ℕ → ℕ) (picked : ℕ → Bool) (v w i : ℕ) → let P = (at i ≡ v) × (of i ≡ w) × (picked i ≡ true) in P ⊎ (¬ P)
+ask_entry at of picked v w i = ⊎_elim
+    (λ (a : at i ≡ v). ⊎_elim
+    (λ (b : of i ≡ w). ⊎_elim (λ (k : picked i ≡ true). inl (a, b, k)) (λ no. inr (λ p. no p.2)) (is_or_not (picked i)))
+    (λ no. inr (λ p. no p.1))
+    (eq_or_ne (of i) w))
+    (λ no. inr (λ p. no p.0))
+    (eq_or_ne (at i) v)
+  where
+    is_or_not : (b : Bool) → (b ≡ true) ⊎ (¬ (b ≡ true))
+    is_or_not true = inl refl
+    is_or_not false = inr (λ e. true≢false (sym e))
+
+-- What is only known to be gathered is gathered: each entry is found by going through the list.
+pub gathers_of : {room n : ℕ} {at of : ℕ → ℕ} {picked : ℕ → Bool} {set : ℕ → ℕ} → ∥ Gathers room n at of picked set ∥₁ → Gathers room n at of picked set
+gathers_of {room} {n} {at} {of} {picked} {set} t =
+    record {
+      holds = λ i l k. ⊎_elim (λ e. e) (λ d. absurd (not_there t (λ g. d (g.holds i l k)))) (eq_or_ne (has (set (at i)) (of i)) 1);
+      comes = λ v w l h. ⊎_elim (λ f. (f.0, f.1, f.2.0, f.2.1, f.2.2)) (λ none. absurd (not_there t (λ g. let f = g.comes v w l h in none f.0 f.1 (f.2, f.3, f.4)))) (look_for _ (ask_entry at of picked v w) n);
+    }

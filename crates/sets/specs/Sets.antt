@@ -1,4 +1,4 @@
--- Sets of actors: each the bits of one word. A slice of such words has three for each actor.
+-- Sets of actors: each the bits of one word.
 use Rattle.std.specs.Prelude.{◌≡◌, ◌≢◌, Bool, true, List, [], ◌∷◌, ℕ, ◌+◌, ◌*◌, ◌/◌, ◌%◌, ◌^◌, ◌<◌, max, get_or}
 
 -- 1 where v is in the set, and 0 where it is not.
@@ -24,10 +24,6 @@ pub record Marked (at v bit : ℕ) (before after : List ℕ) : Type 0 where
   pub kept : (i : ℕ) → i ≢ at → get_or after i 0 ≡ get_or before i 0
   pub put : Put (get_or before at 0) v (max (has (get_or before at 0) v) bit) (get_or after at 0)
 
--- Word k of actor v.
-abbrev pub word : List ℕ → ℕ → ℕ → ℕ
-word words k v = get_or words (3 * v + k) 0
-
 -- What is gathered from the first n of a list: for each i that is picked, the set of actor `at i` has `of i`; and the sets of the
 -- actors below `room` have nobody else.
 pub record Gathers (room n : ℕ) (at of : ℕ → ℕ) (picked : ℕ → Bool) (set : ℕ → ℕ) : Type 0 where
@@ -48,3 +44,7 @@ pub record Spread (set : ℕ → ℕ) (start met : ℕ) : Type 0 where
   pub starts : (v : ℕ) → has start v ≡ 1 → has met v ≡ 1
   pub closed : (v w : ℕ) → has met v ≡ 1 → has (set v) w ≡ 1 → has met w ≡ 1
   pub sound : (w : ℕ) → has met w ≡ 1 → Met set start w
+
+-- Whatever is told of one of the first n is its set.
+abbrev pub Tells : (told : ℕ → ℕ → Type 0) → ℕ → (ℕ → ℕ) → Type 0
+Tells told n sets = (v set : ℕ) → v < n → told v set → set ≡ sets v

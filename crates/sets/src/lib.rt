@@ -1,10 +1,10 @@
 // Sets of up to 64 actors, each the bits of one word, and slices of such words.
 #![tactic(auto)]
 
-ghost use Rattle.std.specs.Prelude.{◌≡◌, cond, ℕ, ◌*◌, ◌/◌, ◌-◌, ◌^◌, ◌<◌, ◌≤◌, min, max, length, get_or, MatchOption};
+ghost use Rattle.std.specs.Prelude.{◌≡◌, cond, ℕ, ◌*◌, ◌-◌, ◌^◌, ◌<◌, ◌≤◌, min, max, length, get_or, MatchOption};
 ghost use Rattle.std.specs.Iterator.{at_most};
 ghost use Rattle.sets.specs.Decides.{Decides};
-ghost use Rattle.sets.specs.Sets.{has, Covers, Below, Put, Marked, word, Spread};
+ghost use Rattle.sets.specs.Sets.{has, Covers, Below, Put, Marked, Spread, Tells};
 
 pub fn has(set: u64, v: usize) -> u64
     requires { v < 64 }
@@ -78,7 +78,7 @@ pub fn least(set: u64) -> usize
     u64::trailing_zeros(set) as usize
 }
 
-// The actors of a set one after the other, the one with the lowest number first.
+// The actors of a set, each once.
 #[derive(Drop)]
 pub struct Members {
     rest: u64,
@@ -125,16 +125,16 @@ pub fn mark(words: &mut [u64], at: usize, v: usize, flag: bool)
     words[at] = with(words[at], v, flag);
 }
 
-// All that are met from `start` along words k: each actor's says whom it leads to.
-pub fn spread(words: &[u64], k: usize, start: u64) -> u64
-    requires { (k < 3) × (length words.now / 3 ≤ 64) × Below start (length words.now / 3) × ((v : ℕ) → v < length words.now / 3 → Below (word words.now k v) (length words.now / 3)) }
-    ensures { Spread (word words.now k) start result }
+// All that are met from `start`: `set_of` says whom each of the first n actors leads to.
+pub fn spread<F: Fn(usize) -> u64>(n: usize, set_of: F, start: u64) -> u64
+    requires { (n ≤ 64) × Below start n × ((v : ℕ) → v < n → F.pre set_of v) × ((v set : ℕ) → v < n → F.post set_of v set → Below set n) }
+    ensures { (sets : ℕ → ℕ) → Tells (F.post set_of) n sets → Spread sets start result }
 {
     let mut met = start;
     let mut todo = start;
     while todo != 0 {
         let v = least(todo);
-        let fresh = minus(words[3 * v + k], met);
+        let fresh = minus(set_of(v), met);
         todo = joined(without(todo, v), fresh);
         met = joined(met, fresh);
     }

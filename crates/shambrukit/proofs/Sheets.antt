@@ -80,7 +80,7 @@ pub prepared_list :
     (l : List ℕ) (p : Result Ready Refusal) (heads : List Head) (actors : List Actor) →
     Prepares l p heads actors → PreparedBy (list_lines l) p heads actors
 prepared_list l (Err r) heads actors lines = lines
-prepared_list l (Ok p) heads actors (js, lines, count, stands) =
+prepared_list l (Ok p) heads actors (same, js, lines, count, stands) =
     let gives = list_gives l lines in
     (js, lines, count, stands, (gives.frame, gives.bounded))
 

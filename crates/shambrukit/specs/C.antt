@@ -1,5 +1,5 @@
 -- The C entries: what they return, as numbers in the order of include/shambrukit.h, and what may be returned.
-use Rattle.std.specs.Prelude.{◌≡◌, List, [], ◌∷◌, ℕ}
+use Rattle.std.specs.Prelude.{◌≡◌, List, [], ◌∷◌, ◌++◌, ℕ, decimal}
 use Rattle.sheet.specs.Answer.{Reply}
 use Rattle.shambrukit.specs.declared.Verdict.{Verdict}
 use Rattle.shambrukit.specs.declared.c.VerdictNumbers.{VerdictNumbers}
@@ -10,6 +10,11 @@ use Rattle.shambrukit.specs.Calls.{Told, Fills, reply_of}
 
 abbrev pub verdict_numbers : VerdictNumbers → List ℕ
 verdict_numbers r = r.answer ∷ r.place ∷ r.load ∷ r.frame ∷ r.length ∷ []
+
+-- The five numbers as they are printed: in decimal, a space between two.
+abbrev pub line_of : VerdictNumbers → List ℕ
+line_of r =
+    decimal r.answer ++ 32 ∷ decimal r.place ++ 32 ∷ decimal r.load ++ 32 ∷ decimal r.frame ++ 32 ∷ decimal r.length
 
 abbrev pub result_numbers : ResultNumbers → List ℕ
 result_numbers r = r.answer ∷ r.place ∷ r.value ∷ []

@@ -1,9 +1,9 @@
 // The calls for C: answers as plain numbers (include/shambrukit.h).
-ghost use Rattle.std.specs.Prelude.{◌≡◌, [], ◌∷◌, length};
+ghost use Rattle.std.specs.Prelude.{◌≡◌, [], ◌∷◌, Some, length};
 ghost use Rattle.sheet.specs.Forms.{packed, unpacked};
 ghost use Rattle.shambrukit.specs.Verdict.{row_of};
 ghost use Rattle.shambrukit.specs.Calls.{demand_told, fewest_told, listed, numbers_of, repetition_numbers, skip_numbers, task_list, whole, reply_of};
-ghost use Rattle.shambrukit.specs.C.{verdict_numbers, result_numbers, RowBy, SaysBy, LendsBy, SheetLends, ListLends};
+ghost use Rattle.shambrukit.specs.C.{verdict_numbers, result_numbers, line_of, RowBy, SaysBy, LendsBy, SheetLends, ListLends};
 
 use super::form::Sheet;
 use super::{Load, Verdict, calls};
@@ -31,6 +31,8 @@ pub struct ResultNumbers {
 
 // The line of a verdict, as the programs print it.
 impl fmt::Display for VerdictNumbers {
+    ghost output = { λ v. Some (line_of v) };
+
     fn fmt<W: fmt::Write>(&self, f: &mut fmt::Formatter<W>) -> fmt::Result {
         write!(
             f,

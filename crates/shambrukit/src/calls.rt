@@ -10,7 +10,7 @@ ghost use Rattle.shambrukit.specs.Held.{HeldFramed, HeldVerdict, HeldTold, HeldL
 
 use super::form::{Memory, Sheet};
 use super::{Load, Verdict};
-use demand::frame::{frame_load, weigh};
+use demand::frame::{Weighted, frame_load, weigh};
 use demand::length::{demand_at, fewest_firings};
 use demand::rows::{Actor, Rows};
 use late::search::late;
@@ -26,13 +26,17 @@ fn verdict_of(rows: &Rows, frame: Ticks) -> Verdict
 {
     let mut weight = [Ticks::of(0); GRAPHS];
     weigh(rows, &mut weight);
-    let load = frame_load(rows, &weight, frame);
+    let weighted = Weighted {
+        rows,
+        weight: &weight,
+    };
+    let load = frame_load(&weighted, frame);
     let sum = Load { load, frame };
     if frame < load {
         return Verdict::Overload(sum);
     }
     let mut pieces = [Known::NOTHING; GRAPHS];
-    match late(rows, &weight, frame, load, &mut pieces) {
+    match late(&weighted, frame, load, &mut pieces) {
         Some(t) => Verdict::Late(sum, t),
         None => Verdict::Accepted(sum),
     }

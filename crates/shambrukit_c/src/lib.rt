@@ -1,6 +1,6 @@
-// The calls for C, exported (include/shambrukit.h). Each calls the function of its name in `shambrukit::c`, whose promise it
-// states again for a byte string or for an unpacked form: a crate is a library or a static library, so the exports stand in a
-// crate of their own.
+// The calls for C, exported (include/shambrukit.h). Each hands on what a function of `shambrukit::c` answers for a byte string or for
+// an unpacked form, and states its promise again: a crate is a library or a static library, so the exports stand in a crate of
+// their own.
 #![tactic(auto)]
 
 ghost use Rattle.std.specs.Prelude.{length};

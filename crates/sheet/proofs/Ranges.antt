@@ -26,25 +26,38 @@ use Rattle.sheet.specs.declared.Refusal.TheVariants.{Range}
 use Rattle.sheet.specs.Answer.{unless}
 use Rattle.sheet.specs.Layout.{fixed_part, actor_part, channel_part, times, layout, total, in_numbers}
 use Rattle.sheet.specs.Fields.{in_range}
-use Rattle.sheet.specs.Check.{actor_count, channel_count, sized, stretch, first_walk, check_list}
+use Rattle.sheet.specs.Check.{actor_count, channel_count, times_of, channels_of, sized, stretch, first_walk, check_list}
 use Rattle.sheet.specs.Forms.{layout_of, range_walk, check_numbers}
 use Rattle.sheet.proofs.GraphLayout.{length_fields, total_times, layout_numbers}
 use Rattle.sheet.proofs.Forms.{Graphs, graphs_on}
 use Rattle.sheet.specs.Sizes.{sizes_numbers}
-use Rattle.sheet.proofs.Walk.{part_is_drop, and_true, Sized, sized_gives, left_turn, left_on, Left}
+use Rattle.sheet.proofs.Walk.{part_is_drop, and_true, sized_gives, left_turn, left_on, Left}
 
 -- The graph at the start of l is 6 numbers, one for each actor and 5 for each channel.
 pub stretch_numbers : (l : List ℕ) → stretch in_numbers l ≡ 6 + actor_count l + 5 * channel_count l
 unfolding stretch
 stretch_numbers l = layout_numbers (actor_count l) (channel_count l)
 
--- The graph at the start of l, whose counts are within bounds: all of it is there.
-pub record GraphFits (l : List ℕ) : Type 0 where
-  pub counts : Sized l
-  pub there : 6 + actor_count l + 5 * channel_count l ≤ length l
+-- The graph at the start of l is all there, and its counts are within bounds.
+pub all_there : (l : List ℕ) → sized l ≡ true → stretch in_numbers l ≤ length l → 6 + actor_count l + 5 * channel_count l ≤ length l
+all_there l counts whole = omega (arith, stretch_numbers l)
 
-pub graph_fits : (l : List ℕ) → (sized l ≡ true) × (stretch in_numbers l ≤ length l) → GraphFits l
-graph_fits l h = record { counts = sized_gives l h.0; there = rw stretch_numbers at h.1 }
+pub some_actor : (l : List ℕ) → sized l ≡ true → 1 ≤ actor_count l
+some_actor l counts = (sized_gives l counts).some
+
+pub few_actors : (l : List ℕ) → sized l ≡ true → actor_count l ≤ 32
+few_actors l counts = (sized_gives l counts).actors
+
+pub few_channels : (l : List ℕ) → sized l ≡ true → channel_count l ≤ 64
+few_channels l counts = (sized_gives l counts).channels
+
+-- The n numbers from place `at` on.
+pub part_from : (l : List ℕ) (at n : ℕ) → take (at + n - at) (drop at l) ≡ take n (drop at l)
+part_from l at n =
+    let e : at + n - at ≡ n = omega arith in
+    rw e
+
+pub ruleset graph_there = (stretch_numbers, all_there, some_actor, few_actors, few_channels, part_from)
 
 -- The numbers from the graph at place `at` on.
 abbrev pub next_of : List ℕ → ℕ → List ℕ
@@ -143,33 +156,23 @@ graph_range l =
       drop-drop,
     )
 
-module _ (l : List ℕ) {b : Bool} (e : b ≡ in_range (fixed_part (actor_count l)) l) where
-  -- A fixed part out of range decides.
-  pub graph_fixed_no : b ≡ false → false ≡ in_range (layout_of l) l
-  graph_fixed_no d = rw (graph_range l, ← e, d)
-
-  module _ {t : Bool} {n : ℕ} (m : n ≡ actor_count l) (h : 6 + actor_count l ≤ length l) (f : t ≡ list_all (between 0 max_time) (take n (drop 6 l))) (d : b ≡ true) where
-    actors_are : in_range (times (actor_count l) actor_part) (drop 6 l) ≡ t
-    actors_are = rw (← m, f) (times_range n (drop 6 l) (omega (arith, length-drop 6 l)))
-
-    -- Then the actors do.
-    pub graph_actors_no : t ≡ false → false ≡ in_range (layout_of l) l
-    graph_actors_no q = rw (graph_range l, ← e, d, actors_are, q)
-
-    -- Then the channels, up to the end of the graph.
-    pub graph_channels_are :
-        t ≡ true → {at end : ℕ} → at ≡ 6 + actor_count l → end ≡ stretch in_numbers l → end ≤ length l → let part = take (end - at) (drop at l) in
-        in_range (times (length part / 5) (channel_part (actor_count l))) part ≡ in_range (layout_of l) l
-    graph_channels_are q {at} {end} p z k =
-        let part : List ℕ = take (end - at) (drop at l) in
-        let fields : List Field = channel_part (actor_count l) in
-        let c : ℕ = channel_count l in
-        let many : end - at ≡ c * 5 = omega (arith, stretch_numbers l) in
-        let long : length part ≡ c * 5 = simp (length-take, length-drop) (omega arith) in
-        let count : length part / 5 ≡ c = omega arith in
-        let inside : length (times c fields) ≡ c * 5 = length_fields (times c fields) ∙ total_times in_numbers c fields ∙ rw (sizes_numbers.channel_is (actor_count l)) in
-        rw (graph_range l, ← e, d, actors_are, q, count, ← p)
-        (same_range (times c fields) part (drop at l) (λ i j. get_or-take (end - at) (drop at l) i 0 (omega arith)))
+-- So it is where those parts are, each by itself.
+pub graph_parts :
+    (l : List ℕ) → sized l ≡ true → stretch in_numbers l ≤ length l → let a = actor_count l in
+    let part = channels_of l in
+    in_range (layout_of l) l
+    ≡ (in_range (fixed_part a) l && (list_all (between 0 max_time) (times_of l) && in_range (times (length part / 5) (channel_part a)) part))
+graph_parts l counts whole =
+    let a : ℕ = actor_count l in
+    let c : ℕ = channel_count l in
+    let part : List ℕ = channels_of l in
+    let fields : List Field = channel_part a in
+    let long : length part ≡ 5 * c = simp (length-take, length-drop) (omega (arith, all_there l counts whole)) in
+    let count : length part / 5 ≡ c = omega arith in
+    let inside : length (times c fields) ≡ c * 5 = length_fields (times c fields) ∙ total_times in_numbers c fields ∙ rw (sizes_numbers.channel_is a) in
+    let same : in_range (times c fields) part ≡ in_range (times c fields) (drop (6 + a) l) =
+    same_range (times c fields) part (drop (6 + a) l) (λ i j. get_or-take (5 * c) (drop (6 + a) l) i 0 (omega arith)) in
+    rw (count, same, ← times_range a (drop 6 l) (omega (arith, length-drop 6 l, all_there l counts whole))) (graph_range l)
 
 -- The ranges of the n graphs of l, come to graph k, where t is left: the graphs of t decide.
 pub record RangesWalk (n : ℕ) (l : List ℕ) (k : ℕ) (t : List ℕ) : Type 0 where
@@ -214,9 +217,20 @@ pub listed : (l : List ℕ) → Graphs in_numbers (get_or l 0 0) (drop 1 l) → 
 listed l g = record { inside = count_inside l g.some; few = g.few; walk = rw part_is_drop g.walk }
 
 -- Where answers 3 to 5 do not refuse, it is one.
-pub list_on : (l : List ℕ) → check_list l ≡ Ok tt → Listed l
+list_on : (l : List ℕ) → check_list l ≡ Ok tt → Listed l
 unfolding check_list
 list_on l e = listed l (graphs_on in_numbers (get_or l 0 0) (drop 1 l) e)
+
+pub list_inside : (l : List ℕ) → check_list l ≡ Ok tt → 1 ≤ length l
+list_inside l e = (list_on l e).inside
+
+pub list_few : (l : List ℕ) → check_list l ≡ Ok tt → get_or l 0 0 ≤ max_graphs
+list_few l e = (list_on l e).few
+
+pub list_walk : (l : List ℕ) → check_list l ≡ Ok tt → first_walk in_numbers (get_or l 0 0) 0 (next_of l 1) ≡ Ok tt
+list_walk l e = (list_on l e).walk
+
+pub ruleset list_passed = (list_inside, list_few, list_walk)
 
 -- A refusal of answers 3 to 5 stands.
 pub numbers_no : (l : List ℕ) (r : Refusal) → check_list l ≡ Err r → Err r ≡ check_numbers l

@@ -1,5 +1,5 @@
 -- 01, Order: answers 1 to 5 in their order, for both forms.
-use Rattle.std.specs.Prelude.{Bool, ◌&&◌, List, ℕ, zero, suc, leb, eqb, length, get_or, drop, Ok}
+use Rattle.std.specs.Prelude.{Bool, ◌&&◌, List, ℕ, zero, suc, ◌+◌, ◌*◌, leb, eqb, length, get_or, take, drop, Ok}
 use Rattle.units.specs.Bounds.{max_graphs, max_actors, max_channels}
 use Rattle.units.specs.Within.{between}
 use Rattle.sheet.specs.declared.Refusal.TheVariants.{Length, Version, Count, Cut, Size}
@@ -14,6 +14,14 @@ actor_count s = get_or s 0 0
 
 abbrev pub channel_count : List ℕ → ℕ
 channel_count s = get_or s 1 0
+
+-- The graph at the start of l, in the unpacked form: actor count, channel count, input, output, T, D; a worst-case time for each
+-- actor; five numbers for each channel.
+abbrev pub times_of : List ℕ → List ℕ
+times_of l = take (actor_count l) (drop 6 l)
+
+abbrev pub channels_of : List ℕ → List ℕ
+channels_of l = take (5 * channel_count l) (drop (6 + actor_count l) l)
 
 -- 01, answer 5: actor and channel count are within bounds.
 unfoldable pub sized : List ℕ → Bool

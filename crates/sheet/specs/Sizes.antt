@@ -3,7 +3,7 @@ use Rattle.std.specs.Prelude.{ℕ, ◌≡◌, refl}
 use Rattle.sheet.specs.Field.{Field}
 use Rattle.sheet.specs.Layout.{fixed_part, actor_part, channel_part, total, in_bytes, in_numbers}
 
--- What the fixed part takes, an actor and a channel.
+-- How much the fixed part, an actor and a channel take.
 pub record Sizes (size : Field → ℕ) (fixed actor channel : ℕ) : Type 0 where
   pub fixed_is : (a : ℕ) → total size (fixed_part a) ≡ fixed
   pub actor_is : total size actor_part ≡ actor

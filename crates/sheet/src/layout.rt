@@ -37,7 +37,7 @@ pub trait Form: Copy {
 
     ghost size: { Field → ℕ };
 
-    // What the fixed part takes, an actor and a channel.
+    // How much the fixed part, an actor and a channel take.
     ghost fixed: { ℕ };
 
     ghost actor: { ℕ };
@@ -62,9 +62,10 @@ pub trait Form: Copy {
         requires { (actors ≤ max_actors) × (channels ≤ max_channels) }
         ensures { result ≡ total size (layout actors channels) };
 
-    // Both counts stand in the fixed part, and no part takes more than it does in bytes.
+    // These are what the layout comes to.
     ghost sizes: { Sizes size fixed actor channel };
 
+    // Both counts stand in the fixed part, and no part takes more than it does in bytes.
     ghost few: { (2 ≤ fixed) × (fixed ≤ 12) × (actor ≤ 4) × (channel ≤ 8) };
 }
 
@@ -88,11 +89,11 @@ impl<'a> Form for &'a [u8] {
     }
 
     fn at(self, place: usize) -> usize {
-        self[place] as usize
+        usize::from(self[place])
     }
 
     fn from(self, place: usize) -> Self {
-        &self[place..]
+        self.split_at(place).1
     }
 
     fn room(actors: usize, channels: usize) -> usize

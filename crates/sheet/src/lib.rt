@@ -6,6 +6,7 @@ ghost use Rattle.sheet.specs.Answer.{number_of, place_of};
 
 pub mod layout; // the two forms, and the room of a graph in each
 pub mod check; // answers 1 to 5
+pub mod graph; // one graph of the unpacked form that has passed them
 pub mod range; // answer 6
 
 // The refusals of document 01, with the graph's number where it gives a place.

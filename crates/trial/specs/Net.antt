@@ -8,7 +8,7 @@ use Rattle.trial.specs.declared.net.Net.{Net}
 abbrev pub net_graph : Net → Graph
 net_graph net = graph_of net.actors net.input net.output net.channels.now
 
--- The links lead along the channels into each actor; along those out of it.
+-- The links lead along the channels into each actor. The second definition says the same of those out of it.
 abbrev pub LinkedInto : Net → List ℕ → Type 0
 LinkedInto net links = Linked (heads net.channels.now) net.actors (length net.channels.now / 5) links
 

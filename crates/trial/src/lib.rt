@@ -4,5 +4,6 @@
 pub mod net; // the graph that the engine is handed
 pub mod channel; // one channel of it
 pub mod links; // the channels at each actor
+pub mod linked; // the graph with these lists
 pub mod along; // the channels of one actor's list
 pub mod run; // the trial run

@@ -5,13 +5,14 @@ ghost use Rattle.std.specs.Prelude.{◌≡◌, ℕ, ◌+◌, ◌*◌, ◌/◌, �
 ghost use Rattle.units.specs.Bounds.{engine_actors, max_repetition};
 ghost use Rattle.sdf.specs.Order.{removed, Lives};
 ghost use Rattle.trial.specs.Flat.{channel_at, vector};
-ghost use Rattle.trial.specs.Net.{net_graph, LinkedInto, LinkedOut};
+ghost use Rattle.trial.specs.Net.{net_graph};
 ghost use Rattle.sets.specs.Decides.{Decides};
 ghost use Rattle.trial.specs.Read.{seen};
 ghost use Rattle.trial.specs.Trial.{Runnable, Greatest, Lets, Allows, Woken, Fireable, Put, TakenOff, Fired, Visitable, Visited, Underway, Started};
 
 use super::along::Along;
 use super::channel::Channel;
+use super::linked::Lists;
 use super::net::Net;
 use units::{Count, Firings, Tokens};
 
@@ -22,10 +23,10 @@ impl Channel {
         ensures { Greatest (Lets (seen self) held.n v) most.n result.n }
     {
         let rate = self.consume;
-        if held.count() < rate.count() {
+        if held < rate {
             return Firings::of(0);
         }
-        if self.tail == v || most.tokens(rate).count() <= held.count() {
+        if self.tail == v || most.tokens(rate) <= held {
             return most;
         }
         held.firings(rate)
@@ -37,7 +38,7 @@ impl Channel {
         ensures { Woken (seen self) v held.n ready.old ready.new }
     {
         let head = self.head;
-        if head == v || held.count() < self.consume.count() || ready[head] != 0 {
+        if head == v || held < self.consume || ready[head] != 0 {
             return;
         }
         ready[head] = 1;
@@ -69,35 +70,34 @@ fn pop(hints: &mut [u64], actors: usize) -> Option<usize>
 }
 
 // How often actor v can fire in a row, at most `short` times.
-fn allowance(net: &Net, into: &[u64], tokens: &[u64], v: usize, short: Firings) -> Firings
-    requires { (v < net.now.actors) × LinkedInto net.now into.now × (length net.now.channels.now / 5 ≤ length tokens.now) × ((c : ℕ) → c < length net.now.channels.now / 5 → (0 < (channel_at net.now.channels.now c).consume) × (short.n * (channel_at net.now.channels.now c).consume < 2 ^ 64)) }
-    ensures { Greatest (Allows (channel_at net.now.channels.now) (length net.now.channels.now / 5) (vector tokens.now) v) short.n result.n }
+fn allowance(lists: &Lists, tokens: &[u64], v: usize, short: Firings) -> Firings
+    requires { (v < lists.now.net.now.actors) × (length lists.now.net.now.channels.now / 5 ≤ length tokens.now) × ((c : ℕ) → c < length lists.now.net.now.channels.now / 5 → (0 < (channel_at lists.now.net.now.channels.now c).consume) × (short.n * (channel_at lists.now.net.now.channels.now c).consume < 2 ^ 64)) }
+    ensures { Greatest (Allows (channel_at lists.now.net.now.channels.now) (length lists.now.net.now.channels.now / 5) (vector tokens.now) v) short.n result.n }
 {
     let mut k = short;
-    for c in Along::of(into, net.actors, v) {
+    for c in Along::of(lists.into, lists.net.actors, v) {
         if k.count() == 0 {
             return k;
         }
-        k = Channel::at(net.channels, c).times(Tokens::of(tokens[c]), v, k);
+        k = Channel::at(lists.net.channels, c).times(Tokens::of(tokens[c]), v, k);
     }
     k
 }
 
 // The channels out of actor v get what k firings produce.
 fn put(
-    net: &Net,
-    out: &[u64],
+    lists: &Lists,
     v: usize,
     k: Firings,
     tokens: &mut [u64],
     ready: &mut [u64],
     hints: &mut [u64],
 )
-    requires { (v < net.now.actors) × LinkedOut net.now out.now × Fireable (channel_at net.now.channels.now) (length net.now.channels.now / 5) v k.n tokens.old ready.old × (0 < length hints.old) }
-    ensures { Put (channel_at net.now.channels.now) (length net.now.channels.now / 5) v k.n tokens.old ready.old tokens.new ready.new }
+    requires { (v < lists.now.net.now.actors) × Fireable (channel_at lists.now.net.now.channels.now) (length lists.now.net.now.channels.now / 5) v k.n tokens.old ready.old × (0 < length hints.old) }
+    ensures { Put (channel_at lists.now.net.now.channels.now) (length lists.now.net.now.channels.now / 5) v k.n tokens.old ready.old tokens.new ready.new }
 {
-    for c in Along::of(out, net.actors, v) {
-        let e = Channel::at(net.channels, c);
+    for c in Along::of(lists.out, lists.net.actors, v) {
+        let e = Channel::at(lists.net.channels, c);
         let held = Tokens::of(tokens[c]).plus(k.tokens(e.produce));
         tokens[c] = held.count();
         e.wake(held, v, ready, hints);
@@ -105,47 +105,42 @@ fn put(
 }
 
 // The channels into actor v lose what k firings consume.
-fn take(net: &Net, into: &[u64], v: usize, k: Firings, tokens: &mut [u64])
-    requires { (v < net.now.actors) × LinkedInto net.now into.now × (length net.now.channels.now / 5 ≤ length tokens.old) × ((c : ℕ) → c < length net.now.channels.now / 5 → k.n * removed (channel_at net.now.channels.now c) v ≤ get_or tokens.old c 0) }
-    ensures { (c : ℕ) → c < length net.now.channels.now / 5 → TakenOff (channel_at net.now.channels.now c) v k.n (get_or tokens.old c 0) (get_or tokens.new c 0) }
+fn take(lists: &Lists, v: usize, k: Firings, tokens: &mut [u64])
+    requires { (v < lists.now.net.now.actors) × (length lists.now.net.now.channels.now / 5 ≤ length tokens.old) × ((c : ℕ) → c < length lists.now.net.now.channels.now / 5 → k.n * removed (channel_at lists.now.net.now.channels.now c) v ≤ get_or tokens.old c 0) }
+    ensures { (c : ℕ) → c < length lists.now.net.now.channels.now / 5 → TakenOff (channel_at lists.now.net.now.channels.now c) v k.n (get_or tokens.old c 0) (get_or tokens.new c 0) }
 {
-    for c in Along::of(into, net.actors, v) {
-        tokens[c] -= k.tokens(Channel::at(net.channels, c).consume).count();
+    for c in Along::of(lists.into, lists.net.actors, v) {
+        tokens[c] -= k.tokens(Channel::at(lists.net.channels, c).consume).count();
     }
 }
 
 // k firings of actor v in a row: they put before they take, since from v to v they put back what they take.
 fn fire(
-    net: &Net,
-    into: &[u64],
-    out: &[u64],
+    lists: &Lists,
     v: usize,
     k: Firings,
     tokens: &mut [u64],
     ready: &mut [u64],
     hints: &mut [u64],
 )
-    requires { (v < net.now.actors) × LinkedInto net.now into.now × LinkedOut net.now out.now × Fireable (channel_at net.now.channels.now) (length net.now.channels.now / 5) v k.n tokens.old ready.old × (0 < length hints.old) }
-    ensures { Fired (channel_at net.now.channels.now) (length net.now.channels.now / 5) v k.n tokens.old ready.old tokens.new ready.new }
+    requires { (v < lists.now.net.now.actors) × Fireable (channel_at lists.now.net.now.channels.now) (length lists.now.net.now.channels.now / 5) v k.n tokens.old ready.old × (0 < length hints.old) }
+    ensures { Fired (channel_at lists.now.net.now.channels.now) (length lists.now.net.now.channels.now / 5) v k.n tokens.old ready.old tokens.new ready.new }
 {
-    put(net, out, v, k, tokens, ready, hints);
-    take(net, into, v, k, tokens);
+    put(lists, v, k, tokens, ready, hints);
+    take(lists, v, k, tokens);
 }
 
 // A visit to actor v. Returns how often it fired. Where it fired nothing the hints are as they were.
 fn visit(
-    net: &Net,
-    into: &[u64],
-    out: &[u64],
+    lists: &Lists,
     v: usize,
     tokens: &mut [u64],
     left: &mut [u64],
     ready: &mut [u64],
     hints: &mut [u64],
 ) -> Firings
-    requires linked { LinkedInto net.now into.now × LinkedOut net.now out.now }
-    requires drawn { (v < net.now.actors) × Visitable (net_graph net.now) tokens.old left.old ready.old × (0 < length hints.old) }
-    ensures visited { Visited (net_graph net.now) v result.n tokens.old left.old ready.old tokens.new left.new ready.new }
+    requires { (v < lists.now.net.now.actors) × Visitable (net_graph lists.now.net.now) tokens.old left.old ready.old × (0 < length hints.old) }
+    ensures visited { Visited (net_graph lists.now.net.now) v result.n tokens.old left.old ready.old tokens.new left.new ready.new }
     ensures hints_unchanged { result.n ≡ 0 → hints.new ≡ hints.old }
 {
     if ready[v] == 0 {
@@ -153,36 +148,33 @@ fn visit(
     }
     ready[v] = 0;
     let short = Firings::of(left[v]);
-    let k = allowance(net, into, tokens, v, short);
+    let k = allowance(lists, tokens, v, short);
     if k.count() == 0 {
         return k;
     }
-    fire(net, into, out, v, k, tokens, ready, hints);
+    fire(lists, v, k, tokens, ready, hints);
     left[v] = short.less(k).count();
     k
 }
 
 // A visit to actor v, and visits along the hints, the last one first. Returns how often actors fired together.
 fn follow(
-    net: &Net,
-    into: &[u64],
-    out: &[u64],
+    lists: &Lists,
     v: usize,
     tokens: &mut [u64],
     left: &mut [u64],
     ready: &mut [u64],
     hints: &mut [u64],
 ) -> Firings
-    requires linked { LinkedInto net.now into.now × LinkedOut net.now out.now }
-    requires drawn { (v < net.now.actors) × Underway (net_graph net.now) tokens.old left.old ready.old × (0 < length hints.old) }
-    ensures { Visited (net_graph net.now) v result.n tokens.old left.old ready.old tokens.new left.new ready.new }
+    requires { (v < lists.now.net.now.actors) × Underway (net_graph lists.now.net.now) tokens.old left.old ready.old × (0 < length hints.old) }
+    ensures { Visited (net_graph lists.now.net.now) v result.n tokens.old left.old ready.old tokens.new left.new ready.new }
 {
     let mut sum = Firings::of(0);
     let mut w = v;
     loop {
-        let k = visit(net, into, out, w, tokens, left, ready, hints);
+        let k = visit(lists, w, tokens, left, ready, hints);
         sum = sum.plus(k);
-        let Some(next) = pop(hints, net.actors) else {
+        let Some(next) = pop(hints, lists.net.actors) else {
             return sum;
         };
         w = next;
@@ -212,30 +204,27 @@ fn start(actors: usize, q: &[u64], left: &mut [u64], ready: &mut [u64]) -> Firin
     rest
 }
 
-// 01, Deadlock: whether some legal order fires every actor exactly q times. `into` and `out` are the lists of channels by head and by tail;
+// 01, Deadlock: whether some legal order fires every actor exactly q times.
 // `tokens`, `left`, `ready` and `hints` are lent to work in.
 pub fn lives(
-    net: &Net,
+    lists: &Lists,
     q: &[u64],
     tokens: &mut [u64],
     left: &mut [u64],
     ready: &mut [u64],
-    into: &[u64],
-    out: &[u64],
     hints: &mut [u64],
 ) -> bool
-    requires drawn { Runnable (net_graph net.now) q.now }
-    requires actors_in_bounds { (net.now.actors ≤ length q.now) × (length net.now.channels.now / 5 ≤ length tokens.old) × (net.now.actors ≤ length left.old) × (net.now.actors ≤ length ready.old) }
-    requires linked { LinkedInto net.now into.now × LinkedOut net.now out.now × (0 < length hints.old) }
-    ensures { Decides result (Lives (net_graph net.now) (vector q.now)) }
+    requires drawn { Runnable (net_graph lists.now.net.now) q.now }
+    requires actors_in_bounds { (lists.now.net.now.actors ≤ length q.now) × (length lists.now.net.now.channels.now / 5 ≤ length tokens.old) × (lists.now.net.now.actors ≤ length left.old) × (lists.now.net.now.actors ≤ length ready.old) × (0 < length hints.old) }
+    ensures { Decides result (Lives (net_graph lists.now.net.now) (vector q.now)) }
 {
     hints[0] = 0;
-    initial(net, tokens);
-    let mut rest = start(net.actors, q, left, ready);
+    initial(lists.net, tokens);
+    let mut rest = start(lists.net.actors, q, left, ready);
     'run: loop {
         let mut fired = false;
-        for v in 0..net.actors {
-            let k = follow(net, into, out, v, tokens, left, ready, hints);
+        for v in 0..lists.net.actors {
+            let k = follow(lists, v, tokens, left, ready, hints);
             if k.count() != 0 {
                 fired = true;
             }

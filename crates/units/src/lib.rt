@@ -4,13 +4,7 @@
 
 ghost use Rattle.std.specs.Prelude.{◌≡◌, refl, ℕ, ◌+◌, ◌-◌, ◌*◌, ◌/◌, ◌^◌, ◌<◌};
 ghost use Rattle.units.specs.Bounds.{max_ticks, max_time, max_repetition, max_outputs, max_rate, max_tokens};
-ghost use Rattle.units.specs.Within.{between, within, ticks_within, firings_within, tokens_within};
-
-fn between(low: u64, high: u64, n: u64) -> bool
-    ensures { result ≡ between low high n }
-{
-    low <= n && n <= high
-}
+ghost use Rattle.units.specs.Within.{within, ticks_within, firings_within, tokens_within};
 
 // What the three have in common: a number, and the count of that number.
 pub trait Count: Copy {
@@ -38,7 +32,7 @@ pub trait Count: Copy {
 fn checked<C: Count>(low: u64, high: u64, n: u64) -> Option<C>
     ensures { result ≡ within C.counted low high n }
 {
-    if between(low, high, n) {
+    if (low..=high).contains(&n) {
         Some(C::of(n))
     } else {
         None

@@ -6,7 +6,7 @@ use Rattle.trial.specs.Knot.{Core}
 use Rattle.knot.proofs.core_of.Given as goal
 
 abbrev pub invariant-loop-core : goal.invariant-loop-core
-invariant-loop-core l = Core (net_graph l.net) (vector l.q) l.core × Below l.core l.net.actors
+invariant-loop-core l = Core (net_graph l.waiting.net.now) (vector l.waiting.q.now) l.core × Below l.core l.waiting.net.now.actors
 
 abbrev pub decreases-loop-core : goal.decreases-loop-core
 decreases-loop-core l = l.core

@@ -6,7 +6,7 @@ use Rattle.trial.specs.Knot.{Done}
 use Rattle.knot.proofs.ordered.Given as goal
 
 abbrev pub invariant-loop-left : goal.invariant-loop-left
-invariant-loop-left l = Done (net_graph l.net) (vector l.q) l.left × Below l.left l.net.actors
+invariant-loop-left l = Done (net_graph l.waiting.net.now) (vector l.waiting.q.now) l.left × Below l.left l.waiting.net.now.actors
 
 abbrev pub decreases-loop-left : goal.decreases-loop-left
 decreases-loop-left l = l.left

@@ -7,4 +7,4 @@ use Rattle.trial.specs.Knot.{Done}
 use Rattle.knot.proofs.pass.Given as goal
 
 abbrev pub invariant-loop-v : goal.invariant-loop-v
-invariant-loop-v l = Done (net_graph l.net) (vector l.q) l.rest × Below l.rest l.net.actors × (l.rest ≤ l.left)
+invariant-loop-v l = Done (net_graph l.waiting.net.now) (vector l.waiting.q.now) l.rest × Below l.rest l.waiting.net.now.actors × (l.rest ≤ l.left)

@@ -13,11 +13,13 @@ loop-i-init c = search rules
 
 pub plus-sum-requires : goal.plus-sum-requires
 plus-sum-requires c =
-    (load_added c.args.rows.now.lent c.requires.0 (search rules) c.loop-i.invariant c.graph_load.ensures).fits
+    let rows = c.args.weighted.now.rows.now in
+    (load_added rows.lent c.requires (search rules) c.loop-i.invariant c.graph_load.ensures).fits
 
 pub loop-i-preserved : goal.loop-i-preserved
 loop-i-preserved c =
-    c.plus-sum.ensures ∙ (load_added c.args.rows.now.lent c.requires.0 (search rules) c.loop-i.invariant c.graph_load.ensures).sum
+    let rows = c.args.weighted.now.rows.now in
+    c.plus-sum.ensures ∙ (load_added rows.lent c.requires (search rules) c.loop-i.invariant c.graph_load.ensures).sum
 
 pub returns : goal.returns
 unfolding load

@@ -6,4 +6,4 @@ use Rattle.demand.proofs.Costs.{graph_load}
 use Rattle.demand.proofs.frame.frame_load.Given as goal
 
 abbrev pub invariant-loop-i : goal.invariant-loop-i
-invariant-loop-i l = l.sum.n ≡ sum_to (graph_load (works_in l.rows) l.frame.n) l.i
+invariant-loop-i l = l.sum.n ≡ sum_to (graph_load (works_in l.weighted.rows.now) l.frame.n) l.i

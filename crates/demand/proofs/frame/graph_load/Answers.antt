@@ -4,4 +4,5 @@ use Rattle.demand.proofs.frame.graph_load.Goals as goal
 
 pub times-requires : goal.times-requires
 times-requires c =
-    load_fits c.args.rows.now.lent c.requires.1 c.requires.0 (c.requires.2.weight _ c.requires.0) cc
+    let weighted = c.args.weighted.now in
+    load_fits weighted.rows.now.lent c.requires.1 c.requires.0 (weighted.weighed.weight _ c.requires.0) cc

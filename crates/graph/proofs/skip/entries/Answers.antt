@@ -1,4 +1,5 @@
 -- `entries` meets its contract. The invariant: who is below v and not in `set` has all its tails in `zero`.
+use Rattle.repeat.proofs.Drawing.{words_of}
 use Rattle.graph.proofs.Lowering.{entering_start, entering_turn, entering_end}
 use Rattle.graph.proofs.skip.entries.Goals as goal
 
@@ -12,4 +13,4 @@ loop-v-preserved c =
 
 pub returns : goal.returns
 returns c =
-    entering_end c.args.net.now.drawn c.requires c.loop-v.auto.v-end c.loop-v-test.false c.loop-v.invariant c.common.ensures.0
+    entering_end c.args.chart.now.net.now.drawn (words_of c.args.chart.now.words) c.loop-v.auto.v-end c.loop-v-test.false c.loop-v.invariant c.common.ensures.0

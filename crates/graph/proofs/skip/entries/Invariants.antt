@@ -3,4 +3,4 @@ use Rattle.graph.proofs.Lowering.{Entering}
 use Rattle.graph.proofs.skip.entries.Given as goal
 
 abbrev pub invariant-loop-v : goal.invariant-loop-v
-invariant-loop-v l = Entering l.words l.zero l.v l.set
+invariant-loop-v l = Entering l.chart.neighbours.now l.zero l.v l.set

@@ -8,19 +8,19 @@ use Rattle.graph.proofs.Lowering.{falling_start, watched_start, zero_skips, Look
 use Rattle.graph.proofs.skip.skips.Goals as goal
 use Rattle.graph.proofs.skip.skips.Goals.{After-start, After-joined-todo}
 
-falling : (c : After-start) → Falling (net_graph c.args.net.now) c.args.zero (vector c.start.new.s)
-falling c = let p = c.requires in falling_start _ _ _ _ c.args.net.now.drawn p.drawn.3 c.start.ensures p.drawn.0 p.words.1
+falling : (c : After-start) → Falling (net_graph c.args.chart.now.net.now) c.args.zero (vector c.start.new.s)
+falling c = let p = c.requires in falling_start _ _ _ _ c.args.chart.now.net.now.drawn p.drawn.3 c.start.ensures p.drawn.0 p.unskipped.0
 
-looks : (c : After-joined-todo) → Looks (net_graph c.args.net.now) c.args.zero c.greatest-h.result c.loop-todo.todo c.without.result c.lower-fell.result c.joined-todo.result c.loop-todo.s c.lower-fell.new.s
+looks : (c : After-joined-todo) → Looks (net_graph c.args.chart.now.net.now) c.args.zero c.greatest-h.result c.loop-todo.todo c.without.result c.lower-fell.result c.joined-todo.result c.loop-todo.s c.lower-fell.new.s
 looks c = record { one = c.greatest-h.ensures.1; off = c.without.ensures; lowered = c.lower-fell.ensures; rest = c.joined-todo.ensures }
 
 pub returns-then-covers : goal.returns-then-covers
 returns-then-covers c =
-    zero_skips c.args.net.now.drawn (falling (goal.at.returns-then-covers c).After-start) (decided_yes _ c.covers.result c.if-covers.true c.covers.ensures)
+    zero_skips c.args.chart.now.net.now.drawn (falling (goal.at.returns-then-covers c).After-start) (decided_yes _ c.covers.result c.if-covers.true c.covers.ensures)
 
 pub loop-todo-init : goal.loop-todo-init
 loop-todo-init c =
-    let d = c.args.net.now.drawn in
+    let d = c.args.chart.now.net.now.drawn in
     settling_start d (falling (goal.at.loop-todo-init c).After-start) (watched_start _ _ _ _ d c.requires.drawn.3 c.start.ensures) c.entries-todo.ensures
 
 pub loop-todo-smaller : goal.loop-todo-smaller

@@ -7,13 +7,13 @@ use Rattle.late.proofs.end.busy.Goals as goal
 
 pub loop-i-init : goal.loop-i-init
 loop-i-init c =
-    let rows = c.args.rows.now in
+    let rows = c.args.weighted.now.rows.now in
     frames_start (busy_bounds (works_in rows) rows.lent.bounded) c.of-so_far.ensures
 
 -- Where the frame of the periods that count is above the bound.
 pub returns-in_default : goal.returns-in_default
 returns-in_default c =
-    frame_carries (works_in c.args.rows.now) c.requires.1
+    frame_carries (works_in c.args.weighted.now.rows.now) c.requires
 
 pub loop-i-preserved : goal.loop-i-preserved
 loop-i-preserved c =
@@ -21,4 +21,4 @@ loop-i-preserved c =
 
 pub returns : goal.returns
 returns c =
-    busy_carries (works_in c.args.rows.now) c.loop-i.invariant (omega arith) c.requires.1
+    busy_carries (works_in c.args.weighted.now.rows.now) c.loop-i.invariant (omega arith) c.requires

@@ -6,4 +6,4 @@ use Rattle.late.specs.Search.{busy_period}
 use Rattle.late.proofs.end.busy.Given as goal
 
 abbrev pub invariant-loop-i : goal.invariant-loop-i
-invariant-loop-i l = Frames (length l.rows.heads.now) (busy_period (works_in l.rows)) l.so_far.n l.i
+invariant-loop-i l = Frames (length l.weighted.rows.now.heads.now) (busy_period (works_in l.weighted.rows.now)) l.so_far.n l.i

@@ -6,17 +6,19 @@ use Rattle.late.proofs.end.graph_surplus.Goals as goal
 
 pub overflow_mul-result : goal.overflow_mul-result
 overflow_mul-result c =
-    let s = c.requires in
-    let high = share_high (works_in c.args.rows.now) c.args.frame.n s.2 c.args.i s.0 in
-    record { fits = rw (c.count.ensures, c.count-period.ensures, c.count-2.ensures, s.1.weight c.args.i s.0) (omega (arith, high)) }
+    let (here, low) = c.requires in
+    let weighted = c.args.weighted.now in
+    let weight = weighted.weighed.weight c.args.i here in
+    let high = share_high (works_in weighted.rows.now) c.args.frame.n low c.args.i here in
+    record { fits = rw (c.count.ensures, c.count-period.ensures, c.count-2.ensures, weight) (omega (arith, high)) }
 
 pub overflow_mul-result-2 : goal.overflow_mul-result-2
 overflow_mul-result-2 c =
-    let s = c.requires in
-    let rows = c.args.rows.now in
-    let fits = surplus_fits (works_in rows) c.args.frame.n rows.lent.bounded s.2 c.args.i s.0 in
+    let (here, low) = c.requires in
+    let weighted = c.args.weighted.now in
+    let weight = weighted.weighed.weight c.args.i here in
+    let rows = weighted.rows.now in
+    let fits = surplus_fits (works_in rows) c.args.frame.n rows.lent.bounded low c.args.i here in
     record {
-      fits = rw
-          (c.count.ensures, c.saturating_sub.ensures, c.count-period.ensures, c.count-deadline.ensures, c.count-2.ensures, s.1.weight c.args.i s.0)
-          fits;
+      fits = rw (c.count.ensures, c.saturating_sub.ensures, c.count-period.ensures, c.count-deadline.ensures, c.count-2.ensures, weight) fits;
     }

@@ -12,14 +12,14 @@ loop-i-init c = refl
 
 pub overflow_add-sum : goal.overflow_add-sum
 overflow_add-sum c =
-    let rows = c.args.rows.now in
+    let rows = c.args.weighted.now.rows.now in
     record {
-      fits = (surplus_added (works_in rows) c.args.frame.n rows.lent.bounded c.requires.1 (omega arith) c.loop-i.invariant
+      fits = (surplus_added (works_in rows) c.args.frame.n rows.lent.bounded c.requires (omega arith) c.loop-i.invariant
           c.graph_surplus-sum.ensures).fits;
     }
 
 pub loop-i-preserved : goal.loop-i-preserved
 loop-i-preserved c =
-    let rows = c.args.rows.now in
-    (surplus_added (works_in rows) c.args.frame.n rows.lent.bounded c.requires.1 (omega arith) c.loop-i.invariant
+    let rows = c.args.weighted.now.rows.now in
+    (surplus_added (works_in rows) c.args.frame.n rows.lent.bounded c.requires (omega arith) c.loop-i.invariant
     c.graph_surplus-sum.ensures).sum

@@ -6,4 +6,4 @@ use Rattle.late.specs.Search.{graph_surplus}
 use Rattle.late.proofs.end.surplus_of.Given as goal
 
 abbrev pub invariant-loop-i : goal.invariant-loop-i
-invariant-loop-i l = l.sum ≡ sum_to (graph_surplus (works_in l.rows) l.frame.n) l.i
+invariant-loop-i l = l.sum ≡ sum_to (graph_surplus (works_in l.weighted.rows.now) l.frame.n) l.i

@@ -14,19 +14,20 @@ loop-i-init c =
 
 pub times-requires : goal.times-requires
 times-requires c =
-    (whole_added c.args.rows.now c.requires.0 c.requires.1 (omega arith) c.loop-i.invariant c.blocks-in-loop-i.ensures).term
+    (whole_added c.args.weighted.now c.requires (omega arith) c.loop-i.invariant c.blocks-in-loop-i.ensures).term
 
 pub plus-sum-requires : goal.plus-sum-requires
 plus-sum-requires c =
     rw c.times.ensures
-    (whole_added c.args.rows.now c.requires.0 c.requires.1 (omega arith) c.loop-i.invariant c.blocks-in-loop-i.ensures).fits
+    (whole_added c.args.weighted.now c.requires (omega arith) c.loop-i.invariant c.blocks-in-loop-i.ensures).fits
 
 pub loop-i-preserved : goal.loop-i-preserved
 loop-i-preserved c =
     rw (c.plus-sum.ensures, c.times.ensures)
-    (whole_added c.args.rows.now c.requires.0 c.requires.1 (omega arith) c.loop-i.invariant c.blocks-in-loop-i.ensures).sum
+    (whole_added c.args.weighted.now c.requires (omega arith) c.loop-i.invariant c.blocks-in-loop-i.ensures).sum
 
 pub returns : goal.returns
 returns c =
-    let all : c.loop-i.i ≡ length c.args.rows.now.heads.now = omega arith in
-    whole_above (works_in c.args.rows.now) c.args.length.n (c.loop-i.invariant ∙ ap (sum_to _) all)
+    let rows = c.args.weighted.now.rows.now in
+    let all : c.loop-i.i ≡ length rows.heads.now = omega arith in
+    whole_above (works_in rows) c.args.length.n (c.loop-i.invariant ∙ ap (sum_to _) all)

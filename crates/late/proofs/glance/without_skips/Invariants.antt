@@ -6,4 +6,4 @@ use Rattle.late.proofs.Glances.{graph_whole}
 use Rattle.late.proofs.glance.without_skips.Given as goal
 
 abbrev pub invariant-loop-i : goal.invariant-loop-i
-invariant-loop-i l = l.sum.n ≡ sum_to (graph_whole (works_in l.rows) l.length.n) l.i
+invariant-loop-i l = l.sum.n ≡ sum_to (graph_whole (works_in l.weighted.rows.now) l.length.n) l.i

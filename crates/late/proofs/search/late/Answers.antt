@@ -1,5 +1,5 @@
 -- `search::late` meets its contract.
-use mathlib.Core.Path.{sym}
+use mathlib.Core.Path.{refl, sym}
 use Rattle.late.proofs.search.late.Goals as goal
 
 pub search-requires : goal.search-requires
@@ -8,6 +8,6 @@ search-requires c =
       c.search_end-end.ensures.high,
       first.0,
       first.1,
-      c.requires.weighed.0,
+      refl,
       c.blank.ensures _ (sym c.graphs.ensures),
     )

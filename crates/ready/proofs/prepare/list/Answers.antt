@@ -2,19 +2,8 @@
 use mathlib.Core.Path.{sym, ◌∙◌}
 use native.Mathlib.Omega.{arith}
 use Rattle.std.proofs.lemmas.Result.{err_from_is_err_and}
-use Rattle.sheet.proofs.Ranges.{list_on}
-use Rattle.ready.proofs.Readying.{prepares_no, prepares_walk, prepares_ready, prepares_frame}
+use Rattle.ready.proofs.Readying.{prepares_walk, prepares_ready, prepares_frame}
 use Rattle.ready.proofs.prepare.list.Goals as goal
-
-pub returns-in_err-list : goal.returns-in_err-list
-returns-in_err-list c =
-    let p = err_from_is_err_and c.from_residual.result c.from_residual.ensures.1 in
-    rw (p.1, p.2) (prepares_no _ (sym c.list.ensures ∙ c.in_err-list.was))
-
-pub walk-requires : goal.walk-requires
-walk-requires c =
-    let l = list_on _ (sym c.list.ensures ∙ c.in_ok-list.was) in
-    (l.walk, l.few, c.requires.0, c.requires.1)
 
 pub returns-in_err-walk : goal.returns-in_err-walk
 returns-in_err-walk c =

@@ -3,4 +3,4 @@ use Rattle.ready.specs.Ready.{Placed}
 use Rattle.ready.proofs.prepare.row.Given as goal
 
 abbrev pub invariant-loop-v : goal.invariant-loop-v
-invariant-loop-v l = Placed l.l l.q l.s l.k l.v l.initial.actors l.actors
+invariant-loop-v l = Placed l.graph.numbers.now l.q l.s l.k l.v l.initial.actors l.actors

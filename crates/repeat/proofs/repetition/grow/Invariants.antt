@@ -5,7 +5,7 @@ use Rattle.repeat.proofs.Growth.{Growing}
 use Rattle.repeat.proofs.repetition.grow.Given as goal
 
 abbrev pub invariant-loop-todo : goal.invariant-loop-todo
-invariant-loop-todo l = Growing (net_graph l.net) l.words l.known l.todo l.q
+invariant-loop-todo l = Growing (net_graph l.net) l.neighbours l.known l.todo l.q
 
 abbrev pub decreases-loop-todo : goal.decreases-loop-todo
 decreases-loop-todo l = 2 ^ 64 - l.known

@@ -6,4 +6,4 @@ use Rattle.repeat.proofs.repetition.repetition.Goals as goal
 pub returns : goal.returns
 returns c =
     let grown = c.in_ok-grow.ensures in
-    grown_settled (net_graph c.args.net.now) c.settle.result c.grow.new.q c.settle.new.awaits c.args.net.now.drawn.sound grown.0 grown.1 c.settle.ensures
+    grown_settled (net_graph c.args.chart.now.net.now) c.settle.result c.grow.new.q c.settle.new.awaits c.args.chart.now.net.now.drawn.sound grown.0 grown.1 c.settle.ensures

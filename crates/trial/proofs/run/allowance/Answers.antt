@@ -10,5 +10,5 @@ loop-c-preserved c =
     let inv = c.loop-c.invariant in (
       rw step.0 inv.0,
       rw step.1 inv.1,
-      allowing_turn inv.2 step.2.0 (along_next c.requires.1 inv.0 inv.1 inv.2.walked step.2) (rw (c.at.ensures, c.of.ensures) at c.times-k.ensures),
+      allowing_turn inv.2 step.2.0 (along_next c.args.lists.now.linked_into inv.0 inv.1 inv.2.walked step.2) (rw (c.at.ensures, c.of.ensures) at c.times-k.ensures),
     )

@@ -8,5 +8,5 @@ use Rattle.trial.proofs.Firing.{Allowing}
 use Rattle.trial.proofs.run.allowance.Given as goal
 
 abbrev pub invariant-loop-c : goal.invariant-loop-c
-invariant-loop-c l = (l.c-iterator.links.now ≡ l.into) × (l.c-iterator.actors ≡ l.net.actors)
-    × Allowing (channel_at l.net.channels.now) (length l.net.channels.now / 5) (vector l.tokens) l.v l.initial.k.n l.c-iterator.at l.k.n
+invariant-loop-c l = (l.c-iterator.links.now ≡ l.lists.into.now) × (l.c-iterator.actors ≡ l.lists.net.now.actors)
+    × Allowing (channel_at l.lists.net.now.channels.now) (length l.lists.net.now.channels.now / 5) (vector l.tokens) l.v l.initial.k.n l.c-iterator.at l.k.n

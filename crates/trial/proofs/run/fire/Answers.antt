@@ -5,4 +5,4 @@ use Rattle.trial.proofs.run.fire.Goals as goal
 
 pub take-requires : goal.take-requires
 take-requires c =
-    (c.requires.0, c.requires.1, search rules, put_enough c.put.ensures c.requires.3)
+    (c.requires.0, search rules, put_enough c.put.ensures c.requires.1)

@@ -4,17 +4,17 @@ use native.Mathlib.Omega.{arith}
 use Rattle.trial.proofs.Toward.{run_visitable, following_visit, following_again, following_underway, visited_fits, hint_less}
 use Rattle.trial.proofs.run.follow.Goals as goal
 
-pub visit-k-requires-clause-drawn : goal.visit-k-requires-clause-drawn
-visit-k-requires-clause-drawn c =
+pub visit-k-requires : goal.visit-k-requires
+visit-k-requires c =
     let s = c.loop-next in (
       s.invariant.0,
-      run_visitable c.args.net.now.drawn (following_underway c.requires.drawn.1 s.invariant.1 s.auto.tokens s.auto.left s.auto.ready),
-      omega (arith, c.requires.drawn.2, s.auto.hints),
+      run_visitable c.args.lists.now.net.now.drawn (following_underway c.requires.1 s.invariant.1 s.auto.tokens s.auto.left s.auto.ready),
+      omega (arith, c.requires.2, s.auto.hints),
     )
 
 pub plus-sum-requires : goal.plus-sum-requires
 plus-sum-requires c =
-    visited_fits c.args.net.now.drawn c.requires.drawn.1 (following_visit c.loop-next.invariant.1 c.visit-k.ensures.visited refl)
+    visited_fits c.args.lists.now.net.now.drawn c.requires.1 (following_visit c.loop-next.invariant.1 c.visit-k.ensures.visited refl)
 
 pub returns-in_default : goal.returns-in_default
 returns-in_default c =

@@ -14,7 +14,7 @@ run-init c = run_start c.initial.ensures c.start-rest.ensures
 over :
     (c : After-count-2) →
     Over
-    (net_graph c.args.net.now)
+    (net_graph c.args.lists.now.net.now)
     (vector c.args.q.now)
     c.loop-v-test.tokens
     c.loop-v-test.left
@@ -33,4 +33,4 @@ over c =
     ]
 
 pub returns : goal.returns
-returns c = rw c.count-2.ensures (run_decides c.args.net.now.drawn.sound (over c))
+returns c = rw c.count-2.ensures (run_decides c.args.lists.now.net.now.drawn.sound (over c))

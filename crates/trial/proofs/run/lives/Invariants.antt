@@ -7,10 +7,10 @@ use Rattle.trial.proofs.Toward.{Pass}
 use Rattle.trial.proofs.run.lives.Given as goal
 
 abbrev pub invariant-loop-v : goal.invariant-loop-v
-invariant-loop-v l = Pass (net_graph l.net) (vector l.q) l.tokens l.left l.ready l.initial.rest.n l.rest.n l.fired l.v
+invariant-loop-v l = Pass (net_graph l.lists.net.now) (vector l.q) l.tokens l.left l.ready l.initial.rest.n l.rest.n l.fired l.v
 
 abbrev pub invariant-run : goal.invariant-run
-invariant-run l = Run (net_graph l.net) (vector l.q) l.tokens l.left l.ready l.rest.n
+invariant-run l = Run (net_graph l.lists.net.now) (vector l.q) l.tokens l.left l.ready l.rest.n
 
 abbrev pub decreases-run : goal.decreases-run
 decreases-run l = l.rest.n

@@ -7,5 +7,5 @@ use Rattle.trial.proofs.Firing.{Putting}
 use Rattle.trial.proofs.run.put.Given as goal
 
 abbrev pub invariant-loop-c : goal.invariant-loop-c
-invariant-loop-c l = (l.c-iterator.links.now ≡ l.out) × (l.c-iterator.actors ≡ l.net.actors)
-    × Putting (channel_at l.net.channels.now) (length l.net.channels.now / 5) l.v l.k.n l.c-iterator.at l.initial.tokens l.initial.ready l.tokens l.ready
+invariant-loop-c l = (l.c-iterator.links.now ≡ l.lists.out.now) × (l.c-iterator.actors ≡ l.lists.net.now.actors)
+    × Putting (channel_at l.lists.net.now.channels.now) (length l.lists.net.now.channels.now / 5) l.v l.k.n l.c-iterator.at l.initial.tokens l.initial.ready l.tokens l.ready

@@ -7,14 +7,14 @@ use Rattle.trial.proofs.run.visit.Goals as goal
 pub returns-then-count-eq0 : goal.returns-then-count-eq0
 returns-then-count-eq0 c =
     record {
-      visited = visit_still c.args.net.now.drawn c.requires.drawn.1 c.requires.drawn.0 c.of-short.ensures c.allowance-k.ensures (omega arith);
+      visited = visit_still c.args.lists.now.net.now.drawn c.requires.1 c.requires.0 c.of-short.ensures c.allowance-k.ensures (omega arith);
       hints_unchanged = λ _. refl;
     }
 
 pub returns : goal.returns
 returns c =
     record {
-      visited = visit_fires c.args.net.now.drawn c.requires.drawn.1 c.requires.drawn.0 c.of-short.ensures c.allowance-k.ensures
+      visited = visit_fires c.args.lists.now.net.now.drawn c.requires.1 c.requires.0 c.of-short.ensures c.allowance-k.ensures
           (λ z. c.if-count-eq0.false (c.count.ensures ∙ z))
           c.fire.ensures
           (c.count-2.ensures ∙ c.less.ensures);

@@ -4,4 +4,6 @@ use Rattle.late.proofs.Glances.{glanced}
 use Rattle.late.proofs.glance.WholeGlance.glance.Goals as goal
 
 pub returns : goal.returns
-returns c = (c.requires.0, glanced (works_in c.args.rows.now) c.without_skips.ensures)
+returns c =
+    let same = c.requires.0 in
+    (same, rw (← same) (glanced (works_in c.args.self.now.weighted.now.rows.now) c.without_skips.ensures))
