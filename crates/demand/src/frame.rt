@@ -30,7 +30,7 @@ fn multiple(a: Ticks, b: Ticks) -> Option<Ticks>
     let by = b.count();
     for k in 1..=Ticks::MAX / step {
         let m = k * step;
-        if m % by == 0 {
+        if m.is_multiple_of(by) {
             return Some(Ticks::of(m));
         }
     }

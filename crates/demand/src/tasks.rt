@@ -13,7 +13,7 @@ fn actor_count(actor: Actor) -> usize
     requires { 0 < actor.repetition.n }
     ensures { result ≡ cond (eqb (actor.skip.n % actor.repetition.n) 0) 3 6 }
 {
-    if actor.skip.count() % actor.repetition.count() == 0 {
+    if actor.skip.count().is_multiple_of(actor.repetition.count()) {
         return 3;
     }
     6

@@ -14,16 +14,14 @@ fn two(n: u32, at: usize, out: &mut [u8])
     requires { at + 2 ≤ length out.old }
     ensures { out.new ≡ sets out.old at (to_bytes 2 n) }
 {
-    out[at] = (n / 256 % 256) as u8;
-    out[at + 1] = (n % 256) as u8;
+    out[at..at + 2].copy_from_slice(&n.to_be_bytes()[2..]);
 }
 
 fn four(n: u32, at: usize, out: &mut [u8])
     requires { at + 4 ≤ length out.old }
     ensures { out.new ≡ sets out.old at (to_bytes 4 n) }
 {
-    two(n / 65536, at, out);
-    two(n, at + 2, out);
+    out[at..at + 4].copy_from_slice(&n.to_be_bytes());
 }
 
 // Numbers are written into bytes.

@@ -42,7 +42,7 @@ fn lowers(e: Channel, skip: Firings, from: Firings) -> bool
     requires { (0 < e.produce.n) × (e.tokens.n + skip.n * e.consume.n < 2 ^ 64) × (from.n * e.produce.n < 2 ^ 64) }
     ensures { Decides result (allows (seen e) skip.n < from.n) }
 {
-    spare(e, skip).count() < from.tokens(e.produce).count()
+    spare(e, skip) < from.tokens(e.produce)
 }
 
 // At least what an actor of this repetition number can skip.

@@ -114,7 +114,7 @@ fn within(net: &Net, q: &[u64], core: u64, c: usize) -> bool
     } else {
         Firings::of(q[e.tail]).tokens(e.produce)
     };
-    e.tokens.count() < enough.count()
+    e.tokens < enough
 }
 
 // Channel c, as channel d of another list.

@@ -35,7 +35,7 @@ fn longer(cycle: Ticks, period: Ticks) -> Ticks
     ensures { (0 < result.n) × (result.n ≤ max_cycle) }
 {
     match common(cycle, period) {
-        Some(m) if m.count() <= LONGEST as u64 => m,
+        Some(m) if m <= Ticks::of(LONGEST as u64) => m,
         _ => cycle,
     }
 }
@@ -69,7 +69,7 @@ fn short_actors(head: Head, cycle: Ticks) -> usize
     requires { 0 < head.period.n }
     ensures { Parting head cycle.n result }
 {
-    if cycle.count() % head.period.count() == 0 {
+    if cycle.count().is_multiple_of(head.period.count()) {
         return head.actors;
     }
     0

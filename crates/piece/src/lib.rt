@@ -101,7 +101,7 @@ fn meet(rows: &Rows, i: usize, k: u64, pieces: &mut [Known])
     ensures { Pieces (works_in rows.now) pieces.new × ((get_or pieces.new i unknown).piece.low ≤ k) × (k ≤ (get_or pieces.new i unknown).piece.high) }
 {
     let known = pieces[i];
-    if known.piece.low <= k && k <= known.piece.high {
+    if (known.piece.low..=known.piece.high).contains(&k) {
         return;
     }
     // The span is one of the piece before: no step leads down from it.
@@ -191,7 +191,7 @@ fn graph_look(rows: &Rows, i: usize, length: Ticks, pieces: &mut [Known]) -> Tic
 {
     let t = length.count();
     let known = pieces[i];
-    if known.from <= t && t < known.to {
+    if (known.from..known.to).contains(&t) {
         return Ticks::of(known.asks);
     }
     if step_down(rows, i, t, pieces) {

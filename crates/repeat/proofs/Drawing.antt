@@ -1,5 +1,5 @@
 -- The neighbours and pairs that one pass over the channels fills in, channel by channel.
-use mathlib.Core.Path.{◌≡◌, refl, sym, ap, ap₂, ◌∙◌, subst}
+use mathlib.Core.Path.{◌≡◌, refl, sym, ap, ◌∙◌, subst}
 use mathlib.Core.Bool.{Bool, true, cond}
 use mathlib.Core.Logic.{◌⊎◌, inl, inr, ⊎_elim, ◌≢◌, ∥∥₁_map, ∥∥₁_elim}
 use mathlib.Core.List.{List, ◌++◌}
@@ -10,11 +10,13 @@ use lib.Dec.{ltb}
 use lib.ListN.{length, get_or, get_or-append, set, length-set, replicate}
 use lib.Seq.{get_or-set_same, get_or-set_other}
 use Rattle.std.specs.Coded.{le_prop}
+use Rattle.std.specs.Ordering.{is_lt, nat_cmp}
 use Rattle.std.proofs.lemmas.List.{length-append, length-replicate, get_or-replicate}
 use Rattle.sdf.specs.Graph.{Channel, Graph}
 use Rattle.sdf.proofs.Numbers.{eq_or_ne}
 use Rattle.sets.specs.Sets.{has, Put, Gathers}
 use Rattle.sets.proofs.Bits.{has_none}
+use Rattle.sets.proofs.Decided.{ordered_less}
 use Rattle.sets.proofs.Gather.{put_comes, gather_start, gather_next, gather_same, gather_single, gathers_of}
 use Rattle.trial.specs.Flat.{Drawn}
 use Rattle.trial.specs.Read.{Read}
@@ -49,9 +51,9 @@ pub record Draws (g : Graph) (n : ℕ) (e : Channel) (back back' : ℕ) (neighbo
   pub kept : Put back e.head (max (has back e.head) (cond (ltb e.tokens e.consume) 1 0)) back'
   pub noted : between' ≡ set between (g.actors * e.tail + e.head) n
 
--- What is put by a comparison of two numbers is put by one of their equals.
-pub put_by : {set v a b x y new : ℕ} → a ≡ x → b ≡ y → Put set v (max (has set v) (cond (ltb a b) 1 0)) new → Put set v (max (has set v) (cond (ltb x y) 1 0)) new
-put_by {set} {v} {a} {b} {x} {y} {new} p q m = subst (λ (f : Bool). Put set v (max (has set v) (cond f 1 0)) new) (ap₂ ltb p q) m
+-- What is put by a comparison of two counts is put by one of their numbers.
+pub put_by : {r : Bool} {set v new : ℕ} (x y : ℕ) → r ≡ is_lt (nat_cmp x y) → Put set v (max (has set v) (cond r 1 0)) new → Put set v (max (has set v) (cond (ltb x y) 1 0)) new
+put_by {set = set} {v} {new} x y e m = subst (λ (f : Bool). Put set v (max (has set v) (cond f 1 0)) new) (e ∙ ordered_less x y) m
 
 -- Two pairs with the same place are the same pair.
 pub place_one : (n t h t' h' : ℕ) → h < n → h' < n → n * t + h ≡ n * t' + h' → (t ≡ t') × (h ≡ h')

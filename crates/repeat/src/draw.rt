@@ -6,7 +6,6 @@ ghost use Rattle.repeat.specs.Words.{Words, Between, KeptBack};
 use sets::with;
 use trial::channel::Channel;
 use trial::net::Net;
-use units::Count;
 
 // An actor's neighbours: the heads of the channels out of it, the tails of those into it, and those of these tails that are tied to
 // it.
@@ -35,13 +34,12 @@ pub fn draw(net: &Net, neighbours: &mut [Neighbours], between: &mut [u8]) -> u64
     let mut back = 0;
     for c in 0..net.channel_count() {
         let e = Channel::at(net.channels, c);
-        let tokens = e.tokens.count();
         let tail = &mut neighbours[e.tail];
         tail.heads = with(tail.heads, e.head, true);
         let head = &mut neighbours[e.head];
         head.tails = with(head.tails, e.tail, true);
-        head.tied = with(head.tied, e.tail, tokens < e.produce.count());
-        back = with(back, e.head, tokens < e.consume.count());
+        head.tied = with(head.tied, e.tail, e.tokens < e.produce);
+        back = with(back, e.head, e.tokens < e.consume);
         between[net.actors * e.tail + e.head] = c as u8;
     }
     back

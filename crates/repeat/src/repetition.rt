@@ -159,14 +159,10 @@ fn grow(chart: &Chart, q: &mut [u64], met: &mut [u64]) -> Result<(), Unnumbered>
 }
 
 // With so many tokens channel e lets its head fire all of q without its tail.
-fn enough(e: Channel, put: u64) -> u64
-    ensures { (q : ℕ → ℕ) → put ≡ q e.tail * e.produce.n → result ≡ enough (seen e) q }
+fn enough(e: Channel, put: Tokens) -> Tokens
+    ensures { (q : ℕ → ℕ) → put.n ≡ q e.tail * e.produce.n → result.n ≡ enough (seen e) q }
 {
-    if e.tail == e.head {
-        e.consume.count()
-    } else {
-        put
-    }
+    if e.tail == e.head { e.consume } else { put }
 }
 
 // 01, Balanced: on every channel tail's number × produce = head's number × consume. Then each actor's word holds those that it has to
@@ -178,11 +174,11 @@ fn settle(net: &Net, q: &[u64], awaits: &mut [u64]) -> Result<(), Unnumbered>
     clear(net.actors, awaits);
     for c in 0..net.channel_count() {
         let e = read(net, c);
-        let put = moved(q[e.tail], e.produce).count();
-        if put != moved(q[e.head], e.consume).count() {
+        let put = moved(q[e.tail], e.produce);
+        if put != moved(q[e.head], e.consume) {
             return Err(Unnumbered::Unbalanced);
         }
-        mark(awaits, e.head, e.tail, e.tokens.count() < enough(e, put));
+        mark(awaits, e.head, e.tail, e.tokens < enough(e, put));
     }
     Ok(())
 }

@@ -71,8 +71,10 @@ pub big_endian_two : (s : List ℕ) (at : ℕ) → get_or s at 0 * 256 + get_or 
 unfolding big_endian
 big_endian_two s at = simp (get_or-drop, drop-drop, add-zero) (omega arith)
 
--- A field of four bytes is two of two bytes.
-pub big_endian_four : (s : List ℕ) (at : ℕ) → big_endian 2 (drop at s) * 65536 + big_endian 2 (drop (at + 2) s) ≡ big_endian 4 (drop at s)
+-- A field of four bytes at place `at`.
+pub big_endian_four :
+    (s : List ℕ) (at : ℕ) →
+    get_or s at 0 * 16777216 + get_or s (at + 1) 0 * 65536 + get_or s (at + 2) 0 * 256 + get_or s (at + 3) 0 ≡ big_endian 4 (drop at s)
 unfolding big_endian
 big_endian_four s at = simp (get_or-drop, drop-drop, add-zero, add_assoc) (omega arith)
 

@@ -3,12 +3,13 @@
 use mathlib.Core.Path.{◌≡◌, refl, sym, ◌∙◌}
 use mathlib.Core.List.{List, [], ◌∷◌, ◌++◌, append_assoc, append-nil}
 use Prim.Native.Nat.{ℕ, suc, ◌+◌, ◌-◌, ◌*◌, ◌/◌, ◌%◌, ◌≤◌, ◌<◌}
-use native.Mathlib.Nat.{mul-le-mul_right, sub-zero, div-one, div-div-eq-div-mul}
-use native.Mathlib.Numerals.{add-one}
+use native.Mathlib.Nat.{mul-le-mul_right, sub-zero, div-one}
 use native.Mathlib.Omega.{arith}
-use lib.ListN.{length, get_or, drop, set}
+use lib.ListN.{length, get_or, drop}
 use lib.Seq.{drop-drop, get_or-drop, sets, sets-eq}
 use borrow.Rule.Slice.PartMut.{put_mid, mid_of}
+use Rattle.std.proofs.lemmas.Slice.{put_mid-paste}
+use Rattle.std.proofs.lemmas.List.Edits.{paste_all}
 use Rattle.sheet.specs.Field.{Field}
 use Rattle.sheet.specs.Layout.{fixed_part, actor_part, channel_part, times, layout, total, in_bytes, in_numbers}
 use Rattle.sheet.specs.Sizes.{Sizes}
@@ -16,7 +17,7 @@ use Rattle.sheet.specs.Fields.{big_endian, to_bytes, numbers, bytes}
 use Rattle.sheet.specs.Check.{actor_count, channel_count, stretch}
 use Rattle.sheet.specs.Forms.{layout_of, graphs_numbers, graphs_bytes}
 use Rattle.sheet.proofs.GraphLayout.{length_fields, total_times, layout_is}
-use Rattle.sheet.proofs.Fields.{big_endian_one, numbers_length, bytes_length}
+use Rattle.sheet.proofs.Fields.{big_endian_one, to_bytes_length, numbers_length, bytes_length}
 use Rattle.sheet.proofs.Filling.{Filling, filling_part, filling_end}
 
 -- One form made of the other, field by field: a field takes up `from` where it is read and `to` where it is written.
@@ -194,19 +195,24 @@ module _ (s list : List ℕ) where
   channel_stored {x} {y} {z} h p q r =
       sets-eq (get_or s 0 0 ∷ get_or s 1 0 ∷ x ∷ y ∷ z ∷ []) list 0 h ∙ simp (p, q, r, drop-drop, big_endian_one, get_or-drop)
 
--- A field of two bytes, one after the other.
-pub two_stored : (n at : ℕ) (out : List ℕ) → set (set out at (n / 256 % 256)) (at + 1) (n % 256) ≡ sets out at (to_bytes 2 n)
+-- A field of two bytes.
+pub two_bytes : (n : ℕ) → n / 256 % 256 ∷ n % 256 ∷ [] ≡ to_bytes 2 n
 unfolding to_bytes
-two_stored n at out = rw (add-one, div-one)
+two_bytes n = rw div-one
 
--- A field of four bytes is two of two bytes.
-pub four_stored :
-    (n at : ℕ) (out : List ℕ) {x y : List ℕ} → x ≡ sets out at (to_bytes 2 (n / 65536)) → y ≡ sets x (at + 2) (to_bytes 2 n) →
-    y ≡ sets out at (to_bytes 4 n)
+-- A field of four bytes.
+pub four_bytes : (n : ℕ) → n / 16777216 % 256 ∷ n / 65536 % 256 ∷ n / 256 % 256 ∷ n % 256 ∷ [] ≡ to_bytes 4 n
 unfolding to_bytes
-four_stored n at out p q =
-    let e : at + 2 ≡ suc (suc at) = omega arith in
-    q ∙ simp (p, e, div-div-eq-div-mul, div-one)
+four_bytes n = rw div-one
+
+-- The bytes of a field are written in one piece, at place i.
+pub field_stored :
+    (w n i k : ℕ) (out : List ℕ) {ys : List ℕ} → i + w ≤ length out → k ≡ w → ys ≡ to_bytes w n → put_mid i k out ys ≡ sets out i (to_bytes w n)
+field_stored w n i k out {ys} h e p =
+    let t : w ≡ length (to_bytes w n) = sym (to_bytes_length w n) in
+    let s : i + length (to_bytes w n) ≤ length out = omega (arith, t) in
+    let piece = put_mid-paste i k out ys (to_bytes w n) w p (sym e) t ∙ paste_all out i (to_bytes w n) w t in
+    piece ∙ (rw (append_assoc, to_bytes_length) at (sym (sets-eq (to_bytes w n) out i s)))
 
 module _ (l out : List ℕ) where
   -- The bytes of the fixed part, one after the other.

@@ -10,7 +10,7 @@ use lib.Dec.{leb, eqb}
 use lib.ListN.{length, take, drop, length-drop}
 use lib.Seq.{take_all}
 use borrow.Author.Tests.{leb-true, le-leb, lt-leb, eq-eqb, ne_eqb}
-use Rattle.units.specs.Bounds.{max_graphs, max_actors, max_channels}
+use Rattle.units.specs.Bounds.{max_actors, max_channels}
 use Rattle.units.specs.Within.{between}
 use Rattle.sheet.specs.declared.Refusal.{Refusal}
 use Rattle.sheet.specs.declared.Refusal.TheVariants.{Count, Cut, Size}
@@ -161,13 +161,3 @@ module _ {size : Field → ℕ} {n : ℕ} {s : List ℕ} {k : ℕ} {t : List ℕ
 pub graphs_none : (size : Field → ℕ) (n : ℕ) (s : List ℕ) → n < 1 → check_graphs size n s ≡ Err Count
 unfolding check_graphs
 graphs_none size n s h = rw (lt-leb _ _ h)
-
--- A graph count above the bound is refused.
-pub graphs_many : (size : Field → ℕ) (n : ℕ) (s : List ℕ) → 1 ≤ n → max_graphs < n → check_graphs size n s ≡ Err Count
-unfolding check_graphs
-graphs_many size n s h l = rw (le-leb _ _ h, lt-leb _ _ l)
-
--- With a graph count within its bounds the first walk decides.
-pub graphs_walk : (size : Field → ℕ) (n : ℕ) (s : List ℕ) → 1 ≤ n → n ≤ max_graphs → first_walk size n 0 s ≡ check_graphs size n s
-unfolding check_graphs
-graphs_walk size n s h l = rw (le-leb _ _ h, le-leb _ _ l)

@@ -13,20 +13,20 @@ pub fn two(s: &[u8], at: usize) -> u32
     requires { at + 2 ≤ length s.now }
     ensures { (result ≡ big_endian 2 (drop at s.now)) × (result < 65536) }
 {
-    s[at] as u32 * 256 + s[at + 1] as u32
+    u16::from_be_bytes([s[at], s[at + 1]]) as u32
 }
 
 pub fn four(s: &[u8], at: usize) -> u32
     requires { at + 4 ≤ length s.now }
     ensures { result ≡ big_endian 4 (drop at s.now) }
 {
-    two(s, at) * 65536 + two(s, at + 2)
+    u32::from_be_bytes([s[at], s[at + 1], s[at + 2], s[at + 3]])
 }
 
 fn sized(actors: usize, channels: usize) -> bool
     ensures { result ≡ (between 1 max_actors actors && between 0 max_channels channels) }
 {
-    1 <= actors && actors <= MAX_ACTORS as usize && channels <= MAX_CHANNELS as usize
+    (1..=MAX_ACTORS as usize).contains(&actors) && channels <= MAX_CHANNELS as usize
 }
 
 // The graph numbered k, from the start of its stretch.
@@ -62,10 +62,11 @@ fn walk<F: Form>(form: F, n: u64) -> Result<(), Refusal>
 }
 
 // The graph count and the graphs.
+#[tactic(auto, unfolding(crate::specs::Check::check_graphs))]
 fn graphs<F: Form>(form: F, n: u64) -> Result<(), Refusal>
     ensures { result ≡ check_graphs F.size n (F.entries form) }
 {
-    if n < 1 || MAX_GRAPHS < n {
+    if !(1..=MAX_GRAPHS).contains(&n) {
         return Err(Refusal::Count);
     }
     walk(form, n)

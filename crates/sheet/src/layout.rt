@@ -25,9 +25,12 @@ pub const ACTOR_BYTES: usize = 4;
 pub const CHANNEL_BYTES: usize = 8;
 
 // The longest unpacked form, and the largest sheet.
-pub const LIST: usize = 1 + 8 * (FIXED + 32 + CHANNEL * 64);
+pub const LIST: usize = 1
+    + MAX_GRAPHS as usize * (FIXED + MAX_ACTORS as usize + CHANNEL * MAX_CHANNELS as usize);
 
-pub const SHEET: usize = 4 + 8 * (FIXED_BYTES + ACTOR_BYTES * 32 + CHANNEL_BYTES * 64);
+pub const SHEET: usize = 4
+    + MAX_GRAPHS as usize
+        * (FIXED_BYTES + ACTOR_BYTES * MAX_ACTORS as usize + CHANNEL_BYTES * MAX_CHANNELS as usize);
 
 // A form, or what is left of it from some place on: bytes, or the numbers of the unpacked form. The same counts stand at the same
 // places in both.

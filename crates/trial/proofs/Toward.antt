@@ -8,10 +8,10 @@ use native.Mathlib.Nat.{le_of_eq, mul-le-mul, pos_of_ne-zero, mul-le-mul_right}
 use native.Mathlib.Numerals.{add-one}
 use native.Mathlib.Omega.{arith}
 use borrow.Author.Tests.{eq-eqb, ne_eqb}
-use borrow.Author.Count.{below_none, below_more}
 use lib.Dec.{eqb}
-use lib.ListN.{length, get_or, set, replicate}
-use lib.Seq.{get_or-set_same, get_or-set_other}
+use lib.ListN.{length, get_or, set, replicate, take, get_or-append}
+use lib.Seq.{get_or-set_same, get_or-set_other, get_or-take, length-take-le}
+use Rattle.std.proofs.lemmas.List.{get_or-replicate, length-replicate}
 use Rattle.units.specs.Bounds.{max_repetition}
 use Rattle.sdf.specs.Graph.{Graph, Sound}
 use Rattle.sdf.specs.Order.{State, initial, Enabled, added, after, Legal, firings, Lives}
@@ -25,32 +25,19 @@ use Rattle.sets.specs.Decides.{Decides}
 use Rattle.trial.specs.Trial.{Greatest, Allows, Restores, Moved, Fired, Run, Visitable, Visited, Underway, Started}
 use Rattle.trial.proofs.Firing.{removed_all, removed_none, added_all, added_none}
 
--- A list filled from the front with the values of f, and one entry more.
-pub filled_more : (f : ℕ → ℕ) (xs : List ℕ) {n x : ℕ} → ((i : ℕ) → i < n → get_or xs i 0 ≡ f i) → n < length xs → x ≡ f n
-    → (i : ℕ) → i < n + 1 → get_or (set xs n x) i 0 ≡ f i
-filled_more f xs {n} {x} before room same =
-    below_more _ _
-    (λ i l. get_or-set_other xs n i x 0 (λ e. omega arith) ∙ before i l)
-    (get_or-set_same xs n x 0 room ∙ same)
-
--- Before the first actor the sum is 0.
-pub started_start : {q left ready : List ℕ} {rest : ℕ} → rest ≡ 0 → Started 0 q left ready rest
-unfolding sum_to
-started_start none = record { short = below_none _; woken = below_none _; sum = none }
-
--- One actor more.
-pub started_turn : {q left ready : List ℕ} {v rest next : ℕ} → Started v q left ready rest → v < length left → v < length ready → next ≡ rest + get_or q v 0
-    → Started (v + 1) q (set left v (get_or q v 0)) (set ready v 1) next
-unfolding sum_to
-started_turn {q} {left} {ready} before left_room ready_room more = record {
-  short = filled_more (vector q) left before.short left_room refl;
-  woken = filled_more (λ _. 1) ready before.woken ready_room refl;
-  sum = rw add-one (omega (arith, before.sum));
+-- All of q still to come, and every actor ready.
+pub started_whole : {n rest : ℕ} {q copied filled : List ℕ} (left ready : List ℕ) → n ≤ length q → copied ≡ take n q → filled ≡ replicate n 1 → rest ≡ sum_to (vector q) n
+    → Started n q (copied ++ left) (filled ++ ready) rest
+started_whole {n} {q = q} left ready room copies fills total = record {
+  short = λ v l. rw copies (get_or-append (take n q) left 0 v (omega (arith, length-take-le n q room)) ∙ get_or-take n q v 0 l);
+  woken = λ v l. rw fills (get_or-append (replicate n 1) ready 0 v (omega (arith, length-replicate {A = ℕ} n 1)) ∙ get_or-replicate n v 1 0 l);
+  sum = total;
 }
 
--- The sum is at most the bound for each actor.
-pub started_bound : {q left ready : List ℕ} {v rest : ℕ} → Started v q left ready rest → ((w : ℕ) → w < v → get_or q w 0 ≤ max_repetition) → rest ≤ v * max_repetition
-started_bound {q} {v = v} before bound = omega (arith, before.sum, sum_bound (vector q) v max_repetition bound)
+-- One actor more.
+pub started_turn : {n i rest next : ℕ} (q : List ℕ) → rest ≡ sum_to (vector q) i → i < n → next ≡ rest + get_or (take n q) i 0 → next ≡ sum_to (vector q) (i + 1)
+unfolding sum_to
+started_turn {n} {i} q before inside more = rw add-one (omega (arith, before, more, get_or-take n q i 0 inside))
 
 -- Before anything fires, all of q is still to come.
 pub run_start : {g : Graph} {q tokens left ready : List ℕ} {rest : ℕ} → ((c : ℕ) → c < g.channels → get_or tokens c 0 ≡ initial g c)

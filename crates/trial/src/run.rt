@@ -195,11 +195,11 @@ fn start(actors: usize, q: &[u64], left: &mut [u64], ready: &mut [u64]) -> Firin
     requires { (actors ≤ engine_actors) × ((v : ℕ) → v < actors → get_or q.now v 0 ≤ max_repetition) × (actors ≤ length q.now) × (actors ≤ length left.old) × (actors ≤ length ready.old) }
     ensures { Started actors q.now left.new ready.new result.n }
 {
+    left[..actors].copy_from_slice(&q[..actors]);
+    ready[..actors].fill(1);
     let mut rest = Firings::of(0);
-    for v in 0..actors {
-        left[v] = q[v];
-        ready[v] = 1;
-        rest = rest.plus(Firings::of(q[v]));
+    for &n in &q[..actors] {
+        rest = rest.plus(Firings::of(n));
     }
     rest
 }

@@ -26,6 +26,14 @@ pub trait Count: Copy {
     {
         Self::of(self.count() + other.count())
     }
+
+    // So many times this count: what firings of this time each take, say, or what they move on a channel of this rate.
+    final fn times(self, k: Firings) -> Self
+        requires { number self * k.n < 2 ^ 64 }
+        ensures { number result ≡ number self * k.n }
+    {
+        Self::of(self.count() * k.count())
+    }
 }
 
 // The count of n, if n is from low to high.
@@ -140,14 +148,6 @@ impl Ticks {
     {
         checked(0, Self::MAX_TIME, n)
     }
-
-    // What so many firings of this time each take.
-    pub fn times(self, k: Firings) -> Ticks
-        requires { self.n * k.n < 2 ^ 64 }
-        ensures { result.n ≡ self.n * k.n }
-    {
-        Ticks { n: self.n * k.n }
-    }
 }
 
 impl Firings {
@@ -177,19 +177,12 @@ impl Firings {
         }
     }
 
-    pub fn times(self, k: Firings) -> Firings
-        requires { self.n * k.n < 2 ^ 64 }
-        ensures { result.n ≡ self.n * k.n }
-    {
-        Firings { n: self.n * k.n }
-    }
-
     // What these firings move on a channel of this rate.
     pub fn tokens(self, rate: Tokens) -> Tokens
         requires { self.n * rate.n < 2 ^ 64 }
         ensures { result.n ≡ self.n * rate.n }
     {
-        Tokens { n: self.n * rate.n }
+        rate.times(self)
     }
 }
 

@@ -30,12 +30,12 @@ bounds-between-net c =
 pub loop-c-preserved : goal.loop-c-preserved
 loop-c-preserved c =
     let k = goal.at.loop-c-preserved c in
-    let tokens = c.count-tokens.ensures in
+    let e = c.at-e.result in
     drawing_turn c.args.net.now.drawn (omega (arith, c.loop-c-test.true, c.channel_count-c-end.ensures)) (omega (arith, c.requires.1, c.loop-c.auto.between)) (channel k.After-at-e) c.loop-c.invariant
     record {
       head = c.with-tail.ensures;
       tail = c.with-head.ensures;
-      ties = put_by tokens c.count.ensures c.with-head-in-loop-c.ensures;
-      kept = put_by tokens c.count-in-loop-c.ensures c.with-back.ensures;
+      ties = put_by e.tokens.n e.produce.n c.lt.ensures c.with-head-in-loop-c.ensures;
+      kept = put_by e.tokens.n e.consume.n c.lt-in-loop-c.ensures c.with-back.ensures;
       noted = refl;
     }

@@ -6,7 +6,7 @@ use Rattle.repeat.proofs.repetition.enough.Goals as goal
 
 pub returns-then-e : goal.returns-then-e
 returns-then-e c =
-    λ q e. c.count.ensures ∙ enough_self (seen c.args.e) q c.if-e.true
+    λ q e. enough_self (seen c.args.e) q c.if-e.true
 
 pub returns-else-e : goal.returns-else-e
 returns-else-e c =

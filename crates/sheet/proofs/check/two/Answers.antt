@@ -1,11 +1,7 @@
 -- `two`: a field of two bytes.
-use native.Mathlib.Omega.{arith}
-use Prim.Native.Nat.{◌+◌}
+use mathlib.Core.Path.{◌∙◌}
 use Rattle.sheet.proofs.Fields.{big_endian_two}
 use Rattle.sheet.proofs.check.two.Goals as goal
 
 pub returns : goal.returns
-returns c = (
-  big_endian_two c.args.s.now c.args.at,
-  omega (arith, c.type_inv.s c.args.at, c.type_inv.s (c.args.at + 1)),
-)
+returns c = (c.from_be_bytes.ensures ∙ big_endian_two c.args.s.now c.args.at, c.from_be_bytes.type_inv)

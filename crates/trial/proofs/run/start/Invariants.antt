@@ -1,6 +1,8 @@
--- `start` leaves all of q still to come, with every actor ready.
-use Rattle.trial.specs.Trial.{Started}
+-- `start` leaves all of q still to come, with every actor ready. The invariant: the sum is that of the numbers passed.
+use mathlib.Core.Path.{◌≡◌}
+use Rattle.sdf.specs.Sum.{sum_to}
+use Rattle.trial.specs.Flat.{vector}
 use Rattle.trial.proofs.run.start.Given as goal
 
-abbrev pub invariant-loop-v : goal.invariant-loop-v
-invariant-loop-v l = Started l.v l.q l.left l.ready l.rest.n
+abbrev pub invariant-loop-n : goal.invariant-loop-n
+invariant-loop-n l = l.rest.n ≡ sum_to (vector l.q) l.n-index
