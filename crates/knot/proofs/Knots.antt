@@ -12,7 +12,7 @@ use lib.ListN.{length, take}
 use lib.Seq.{length-take-le}
 use borrow.Author.Tests.{lt-ltb, eqb-true}
 use Rattle.units.specs.Bounds.{max_rate, max_tokens, max_repetition}
-use Rattle.sets.specs.Sets.{has, Below, Put}
+use Rattle.sets.specs.Sets.{has, Covers, Below, Put}
 use Rattle.sets.proofs.Bits.{has_none, has_small, has_bit}
 use Rattle.sdf.specs.Graph.{Channel, Graph, Sound}
 use Rattle.sdf.specs.Balance.{AtMost, Balanced}
@@ -97,6 +97,10 @@ module _ {g : Graph} (sound : Sound g) {q : ℕ → ℕ} (balanced : Balanced g 
         (has_bit core (g.channel c).tail);
   }
 
+-- At first everybody is left.
+pub done_start : (g : Graph) (q : ℕ → ℕ) (left : ℕ) → Covers left g.actors → Done g q left
+done_start g q left all n stopped v l z = absurd (omega (arith, all v l))
+
 -- Those who are left are a core.
 pub core_start : {g : Graph} → Sound g → {q : ℕ → ℕ} {left : ℕ} → Done g q left → Core g q left
 core_start {g} sound {q} {left} done = record {
@@ -134,6 +138,10 @@ released_below {left} {awaits} {v} {new} {n} r b w h =
 pub record Wanting (awaits : ℕ → ℕ) (left all todo : ℕ) : Type 0 where
   pub within : (v : ℕ) → has todo v ≡ 1 → has left v ≡ 1
   pub said : (v w : ℕ) → has left v ≡ 1 → has todo v ≡ 0 → has (awaits v) w ≡ 1 → has all w ≡ 1
+
+-- Before anybody has.
+pub wanting_start : (awaits : ℕ → ℕ) (left : ℕ) → Wanting awaits left 0 left
+wanting_start awaits left = record { within = λ v h. h; said = λ v w h z. absurd (omega arith) }
 
 -- One more has.
 pub wanting_turn : {awaits : ℕ → ℕ} {left all todo v all' todo' : ℕ} → Wanting awaits left all todo

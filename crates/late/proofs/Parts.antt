@@ -134,7 +134,7 @@ module _ {cycle : ℕ} {heads short long : List Head} (actors : List Actor) (roo
   split_lent b p = (part_lent (short_part p) actors room b, part_lent (long_part p) actors room b)
 
   -- The parts ask for no less than the whole.
-  split_demand : Split cycle heads short long → (t : ℕ)
+  pub split_demand : Split cycle heads short long → (t : ℕ)
       → demand (works_of heads actors room) t ≤ demand (works_of short actors room) t + demand (works_of long actors room) t
   unfolding demand
   split_demand p t = rw (p.short_graphs, p.long_graphs) (sum_mono_add _ _ _ (length heads) (λ i l. ⊎_elim
@@ -143,7 +143,7 @@ module _ {cycle : ℕ} {heads short long : List Head} (actors : List Actor) (roo
       ((p.parted i l).parting)))
 
   -- The cycle carries the short periods.
-  split_carries : 0 < cycle → Split cycle heads short long → Carries (works_of short actors room) cycle cycle
+  pub split_carries : 0 < cycle → Split cycle heads short long → Carries (works_of short actors room) cycle cycle
   split_carries c p = record {
     positive = c;
     divides = dvd_refl cycle;

@@ -136,7 +136,7 @@ pub struct Table<'a> {
 
 impl Table<'_> {
     // How much the graphs of the table leave at least from a length on.
-    fn floor_at(&self, from: Ticks) -> Ticks
+    pub fn floor_at(&self, from: Ticks) -> Ticks
         requires { (0 < self.now.cycle.n) × (self.now.cycle.n ≤ max_cycle) × (self.now.cycle.n ≤ length self.now.floors.now) × (self.now.rest.n ≤ self.now.cycle.n) × (from.n ≤ max_ticks) }
         ensures { result.n ≡ floor_at self.now.cycle.n self.now.rest.n self.now.floors.now from.n }
     {

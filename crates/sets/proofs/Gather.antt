@@ -90,12 +90,43 @@ pub gather_next : {room n : ℕ} {at of : ℕ → ℕ} {picked : ℕ → Bool} {
     → Put (set (at n)) (of n) (max (has (set (at n)) (of n)) (cond (picked n) 1 0)) (set' (at n)) → ((v : ℕ) → v ≢ at n → set' v ≡ set v) → Gathers room (n + 1) at of picked set'
 gather_next g p same = gather_plus (gather_turn g p same)
 
+-- One entry more that is not picked changes nothing.
+pub gather_skip : {room n : ℕ} {at of : ℕ → ℕ} {picked : ℕ → Bool} {set : ℕ → ℕ} → Gathers room n at of picked set → picked n ≡ false → Gathers room (n + 1) at of picked set
+gather_skip {room} {n} {at} {of} {picked} {set} g z =
+    record {
+      holds = λ i l k. ⊎_elim
+          (λ (e : i ≡ n). absurd (true≢false (sym k ∙ ap picked e ∙ z)))
+          (λ d. g.holds i (omega arith) k)
+          (eq_or_ne i n);
+      comes = λ v w l h. let c = g.comes v w l h in (c.0, omega (arith, c.1), c.2, c.3, c.4);
+    }
+
 -- Equal sets are gathered from the same.
 pub gather_same : {room n : ℕ} {at of : ℕ → ℕ} {picked : ℕ → Bool} {set set' : ℕ → ℕ} → Gathers room n at of picked set → ((v : ℕ) → set' v ≡ set v) → Gathers room n at of picked set'
 gather_same {at = at} {of = of} g e =
     record {
       holds = λ i l k. ap (λ (x : ℕ). has x (of i)) (e (at i)) ∙ g.holds i l k;
       comes = λ v w l h. g.comes v w l (ap (λ (x : ℕ). has x w) (sym (e v)) ∙ h);
+    }
+
+-- Sets that are equal below `room` are gathered from the same, where no entry is of an actor past it.
+pub gather_ext : {room n : ℕ} {at of : ℕ → ℕ} {picked : ℕ → Bool} {set set' : ℕ → ℕ} → ((i : ℕ) → i < n → at i < room) → Gathers room n at of picked set → ((v : ℕ) → v < room → set' v ≡ set v) → Gathers room n at of picked set'
+gather_ext {at = at} {of = of} b g e =
+    record {
+      holds = λ i l k. ap (λ (x : ℕ). has x (of i)) (e (at i) (b i l)) ∙ g.holds i l k;
+      comes = λ v w l h. g.comes v w l (ap (λ (x : ℕ). has x w) (sym (e v l)) ∙ h);
+    }
+
+-- The same is gathered from lists with the same first entries.
+pub gather_from : {room n : ℕ} {at at' of of' : ℕ → ℕ} {picked picked' : ℕ → Bool} {set : ℕ → ℕ} → Gathers room n at of picked set
+    → ((i : ℕ) → i < n → (at' i ≡ at i) × (of' i ≡ of i) × (picked' i ≡ picked i)) → Gathers room n at' of' picked' set
+gather_from g e =
+    record {
+      holds = λ i l k. rw ((e i l).0, (e i l).1) (g.holds i l (sym (e i l).2 ∙ k));
+      comes = λ v w l h.
+          let c = g.comes v w l h in
+          let s = e c.0 c.1 in
+          (c.0, c.1, s.0 ∙ c.2, s.1 ∙ c.3, s.2 ∙ c.4);
     }
 
 -- The sets have nobody past m, where no entry is past it.

@@ -1,5 +1,5 @@
 -- 01, the calls' own lines: 15 for the graph, 15 for the actor, 13, 14, and the answer, for judged graphs that stand in their rows.
-use mathlib.Core.Path.{◌≡◌, refl, ap, ◌∙◌}
+use mathlib.Core.Path.{◌≡◌, refl, ap, ◌∙◌, subst}
 use mathlib.Core.List.{List, ◌++◌}
 use Prim.Native.Nat.{ℕ, ◌*◌, ◌-◌, ◌<◌, ◌≤◌, ◌^◌}
 use native.Mathlib.Omega.{arith}
@@ -31,6 +31,12 @@ use Rattle.shambrukit.specs.Verdict.{Judgement, overload, late, accepted}
 use Rattle.shambrukit.specs.Calls.{Told, Fills, listed, numbers_of, demand_told, fewest_told, task_list}
 use Rattle.shambrukit.specs.Held.{PreparedBy, Stand, HeldTold, HeldListed, Column}
 use Rattle.shambrukit.proofs.Held.{works_same, work_same, actors_same}
+
+-- What the lines find ready of the form that was handed on, they find of the one that came.
+pub prepared_same :
+    {F : Type 0} (lines : F → Outcome → Type 0) (p : Ready) {form f : F} {heads : List Head} {actors : List Actor} →
+    f ≡ form → PreparedBy (lines f) (Ok p) heads actors → PreparedBy (lines form) (Ok p) heads actors
+prepared_same lines p {heads = heads} {actors = actors} e prepared = subst (λ f. PreparedBy (lines f) (Ok p) heads actors) e prepared
 
 -- The graphs that the lines find ready, where they stand in rows.
 module _ (lines : Outcome → Type 0) (p : Ready) {heads : List Head} {actors : List Actor} {rows : Rows} (prepared : PreparedBy lines (Ok p) heads actors)

@@ -19,7 +19,7 @@ use Rattle.ready.proofs.Same.{SameWork, Same, bounded_same, frame_same}
 use Rattle.shambrukit.specs.Held.{Stand, Framed}
 
 -- A number of an actor, read from the row.
-column_at :
+pub column_at :
     (field : Actor → ℕ) (actors : List Actor) (i m v : ℕ) {xs : List ℕ} → map field (stand.row_at actors i m) ≡ xs → v < m →
     field (get_or actors (32 * i + v) no_actor) ≡ get_or xs v (field no_actor)
 column_at field actors i m v e h =

@@ -44,9 +44,15 @@ pub pack_whole :
 unfolding pack_answer
 pack_whole l room js F lines = rw (numbers_on l js F lines) (room_line (leb (length (packed l)) room) (length (packed l)))
 
--- So does unpacking.
+-- So does unpacking, where answers 1 to 5 do not refuse.
 pub unpack_whole :
+    (s : List ℕ) (room : ℕ) (js : List Judged) (F : ℕ) → check_sheet s ≡ Ok tt → unpack_answer s room ≡ whole (ready js F) (length (unpacked s)) room
+unfolding unpack_answer
+unpack_whole s room js F on = rw on (room_line (leb (length (unpacked s)) room) (length (unpacked s)))
+
+-- And where nothing is refused.
+pub unpack_ready :
     (s : List ℕ) (room : ℕ) (js : List Judged) (F : ℕ) → sheet_lines s (ready js F) →
     unpack_answer s room ≡ whole (ready js F) (length (unpacked s)) room
-unfolding unpack_answer sheet_lines
-unpack_whole s room js F lines = rw (checked_on (check_sheet s) _ lines).0 (room_line (leb (length (unpacked s)) room) (length (unpacked s)))
+unfolding sheet_lines
+unpack_ready s room js F lines = unpack_whole s room js F (checked_on (check_sheet s) _ lines).0

@@ -12,7 +12,7 @@ use Rattle.demand.specs.declared.rows.Head.{Head}
 use Rattle.demand.specs.declared.rows.Actor.{Actor}
 use Rattle.sheet.specs.Answer.{Answer, Reply, written, filled}
 use Rattle.sheet.specs.Layout.{largest_list}
-use Rattle.sheet.specs.Check.{check_sheet}
+use Rattle.sheet.specs.Check.{check_sheet, check_list}
 use Rattle.sheet.specs.Forms.{unpacked, unpack_answer}
 use Rattle.sheet.proofs.Forms.{unpacked_at_most}
 use Rattle.sheet.specs.declared.Refusal.{Refusal}
@@ -35,6 +35,15 @@ wrote (Ok _) n few e =
     let w : written (Ok tt) largest_list n ≡ Ok n = rw (le-leb n largest_list (few refl)) refl in
     (refl, cc)
 wrote (Err r) n few e = absurd (let z : ◌≡◌ {A = ℕ} 0 1 = cc in omega arith)
+
+-- What answers 1 to 5 refuse, the lines refuse: of a byte string, and of a list.
+pub sheet_refuses : (s : List ℕ) {a : Answer} {r : Refusal} → a ≡ check_sheet s → a ≡ Err r → sheet_lines s (refused r)
+unfolding sheet_lines
+sheet_refuses s e q = rw (sym e ∙ q) refl
+
+pub list_refuses : (l : List ℕ) {a : Answer} {r : Refusal} → a ≡ check_list l → a ≡ Err r → list_lines l (refused r)
+unfolding list_lines
+list_refuses l e q = rw (sym e ∙ q) refl
 
 -- The unpacked form of s stands in the first n places, and answers 1 to 5 do not refuse s.
 pub record Unpacks (s : List ℕ) (n : ℕ) (numbers : List ℕ) : Type 0 where

@@ -19,6 +19,11 @@ use Rattle.shambrukit.specs.Calls.{listed, numbers_of}
 abbrev pub Framed : List Judged → ℕ → Type 0
 Framed js F = Frame (length js) (λ i. (get_or js i nothing).period) F × (F ≤ max_ticks)
 
+-- A refusal that the lines 1 to 12 allow of the form, or the form as it is.
+abbrev pub CheckedBy : {F : Type 0} → (F → Outcome → Type 0) → F → Result F Refusal → Type 0
+CheckedBy lines form (Err r) = lines form (refused r)
+CheckedBy lines form (Ok f) = f ≡ form
+
 -- A refusal that the lines 1 to 12 allow, or the graphs that they find ready, in their places, and the frame.
 abbrev pub PreparedBy : (Outcome → Type 0) → Result Ready Refusal → List Head → List Actor → Type 0
 PreparedBy lines (Err r) heads actors = lines (refused r)

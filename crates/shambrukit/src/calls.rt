@@ -46,6 +46,10 @@ fn verdict_of(rows: &Rows, frame: Ticks) -> Verdict
 pub fn judge<F: Sheet>(form: F) -> Verdict
     ensures { VerdictBy (F.lines form) result }
 {
+    let form = match form.checked() {
+        Err(r) => return Verdict::Refused(r),
+        Ok(form) => form,
+    };
     let mut memory = Memory::new();
     match form.prepare(&mut memory) {
         Err(r) => Verdict::Refused(r),
@@ -64,6 +68,7 @@ fn demand_of(rows: &Rows, length: u64) -> Result<u64, Refusal>
 pub fn demand<F: Sheet>(form: F, length: u64) -> Result<u64, Refusal>
     ensures { Told (F.lines form) (λ o. demand_told o length) result }
 {
+    let form = form.checked()?;
     let mut memory = Memory::new();
     let ready = form.prepare(&mut memory)?;
     demand_of(&memory.rows(ready.graphs), length)
@@ -97,6 +102,7 @@ fn fewest_of(rows: &Rows, graph: u64, actor: u64, k: u64) -> Result<u64, Refusal
 pub fn fewest<F: Sheet>(form: F, graph: u64, actor: u64, k: u64) -> Result<u64, Refusal>
     ensures { Told (F.lines form) (λ o. fewest_told o graph actor k) result }
 {
+    let form = form.checked()?;
     let mut memory = Memory::new();
     let ready = form.prepare(&mut memory)?;
     fewest_of(&memory.rows(ready.graphs), graph, actor, k)
@@ -126,6 +132,7 @@ fn column_of<N: Fn(Actor) -> u64>(
 pub fn repetition<F: Sheet>(form: F, graph: u64, out: &mut [u64]) -> Result<usize, Refusal>
     ensures { Fills (F.lines form) (λ o. listed repetition_numbers o graph (length out.old)) (λ o. numbers_of repetition_numbers o graph) result out.old out.new }
 {
+    let form = form.checked()?;
     let mut memory = Memory::new();
     let ready = form.prepare(&mut memory)?;
     column_of(
@@ -140,6 +147,7 @@ pub fn repetition<F: Sheet>(form: F, graph: u64, out: &mut [u64]) -> Result<usiz
 pub fn skips<F: Sheet>(form: F, graph: u64, out: &mut [u64]) -> Result<usize, Refusal>
     ensures { Fills (F.lines form) (λ o. listed skip_numbers o graph (length out.old)) (λ o. numbers_of skip_numbers o graph) result out.old out.new }
 {
+    let form = form.checked()?;
     let mut memory = Memory::new();
     let ready = form.prepare(&mut memory)?;
     column_of(
@@ -166,6 +174,7 @@ fn tasks_of(rows: &Rows, graph: u64, out: &mut [u64]) -> Result<usize, Refusal>
 pub fn tasks<F: Sheet>(form: F, graph: u64, out: &mut [u64]) -> Result<usize, Refusal>
     ensures { Fills (F.lines form) (λ o. listed task_list o graph (length out.old)) (λ o. numbers_of task_list o graph) result out.old out.new }
 {
+    let form = form.checked()?;
     let mut memory = Memory::new();
     let ready = form.prepare(&mut memory)?;
     tasks_of(&memory.rows(ready.graphs), graph, out)
@@ -175,6 +184,7 @@ pub fn tasks<F: Sheet>(form: F, graph: u64, out: &mut [u64]) -> Result<usize, Re
 pub fn unpack(s: &[u8], out: &mut [u32]) -> Result<usize, Refusal>
     ensures { SheetFills s.now (λ o. whole o (length (unpacked s.now)) (length out.old)) (λ _. unpacked s.now) result out.old out.new }
 {
+    s.checked()?;
     s.prepare(&mut Memory::new())?;
     forms::unpack::sheet(s, out)
 }
@@ -183,6 +193,7 @@ pub fn unpack(s: &[u8], out: &mut [u32]) -> Result<usize, Refusal>
 pub fn pack(l: &[u32], out: &mut [u8]) -> Result<usize, Refusal>
     ensures { ListFills l.now (λ o. whole o (length (packed l.now)) (length out.old)) (λ _. packed l.now) result out.old out.new }
 {
+    l.checked()?;
     l.prepare(&mut Memory::new())?;
     forms::pack::list(l, out)
 }

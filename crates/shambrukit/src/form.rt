@@ -1,7 +1,7 @@
 // Answers 1 to 12, for a byte string and for an unpacked form; behind them every call is the same for both.
 ghost use Rattle.std.specs.Prelude.{◌≡◌, List, length};
 ghost use Rattle.ready.specs.Lines.{Outcome, sheet_lines, list_lines};
-ghost use Rattle.shambrukit.specs.Held.{PreparedBy, Stand};
+ghost use Rattle.shambrukit.specs.Held.{CheckedBy, PreparedBy, Stand};
 ghost use Rattle.ready.specs.Graphs.{Judged};
 ghost use Rattle.ready.specs.Rows.{Rows as Stands};
 
@@ -57,6 +57,15 @@ pub trait Sheet {
     // The lines 1 to 12 of the answer table, as they read for this form.
     ghost lines: { Self → Outcome → Type 0 };
 
+    // The refusals that need no memory: a call asks for them before it clears any.
+    fn checked(self) -> Result<Self, Refusal>
+    where
+        Self: Sized,
+        ensures { CheckedBy lines self result }
+    {
+        Ok(self)
+    }
+
     // Without a refusal every graph stands in the memory.
     fn prepare(self, memory: &mut Memory) -> Result<Ready, Refusal>
         ensures { PreparedBy (lines self) result memory.new.heads memory.new.actors };
@@ -64,6 +73,12 @@ pub trait Sheet {
 
 impl<'a> Sheet for &'a [u8] {
     ghost lines = { λ s. sheet_lines s.now };
+
+    // Answers 1 to 5.
+    fn checked(self) -> Result<Self, Refusal> {
+        sheet::check::sheet(self)?;
+        Ok(self)
+    }
 
     fn prepare(self, memory: &mut Memory) -> Result<Ready, Refusal> {
         let mut numbers = [0u32; LIST];
@@ -74,6 +89,12 @@ impl<'a> Sheet for &'a [u8] {
 
 impl<'a> Sheet for &'a [u32] {
     ghost lines = { λ l. list_lines l.now };
+
+    // Answers 3 to 5.
+    fn checked(self) -> Result<Self, Refusal> {
+        sheet::check::list(self)?;
+        Ok(self)
+    }
 
     fn prepare(self, memory: &mut Memory) -> Result<Ready, Refusal> {
         prepare::list(self, &mut memory.heads, &mut memory.actors)

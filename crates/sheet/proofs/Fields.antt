@@ -78,6 +78,11 @@ pub big_endian_four :
 unfolding big_endian
 big_endian_four s at = simp (get_or-drop, drop-drop, add-zero, add_assoc) (omega arith)
 
+-- Two fields of two bytes are one of four.
+pub big_endian_halves : (s : List ℕ) (at : ℕ) → big_endian 2 (drop at s) * 65536 + big_endian 2 (drop (at + 2) s) ≡ big_endian 4 (drop at s)
+unfolding big_endian
+big_endian_halves s at = simp (get_or-drop, drop-drop, add-zero, add_assoc) (omega arith)
+
 -- A number takes as many bytes as its field is wide.
 pub to_bytes_length : (w n : ℕ) → length (to_bytes w n) ≡ w
 unfolding to_bytes

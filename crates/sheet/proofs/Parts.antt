@@ -125,7 +125,7 @@ module _ {size : Field → ℕ} {f a c : ℕ} (z : Sizes size f a c) (s : List �
 module _
     {A : Type 0} {write : List Field → List ℕ → List A} {from to : Field → ℕ} (form : Makes write from to) {f a c f' a' c' : ℕ}
     (z : Sizes from f a c) (z' : Sizes to f' a' c') where
-  actors_total : (n : ℕ) → total from (times n actor_part) ≡ n * a
+  pub actors_total : (n : ℕ) → total from (times n actor_part) ≡ n * a
   actors_total n = rw (total_times from n actor_part, z.actor_is)
 
   graph_whole :

@@ -217,7 +217,7 @@ pub listed : (l : List ℕ) → Graphs in_numbers (get_or l 0 0) (drop 1 l) → 
 listed l g = record { inside = count_inside l g.some; few = g.few; walk = rw part_is_drop g.walk }
 
 -- Where answers 3 to 5 do not refuse, it is one.
-list_on : (l : List ℕ) → check_list l ≡ Ok tt → Listed l
+pub list_on : (l : List ℕ) → check_list l ≡ Ok tt → Listed l
 unfolding check_list
 list_on l e = listed l (graphs_on in_numbers (get_or l 0 0) (drop 1 l) e)
 

@@ -2,7 +2,7 @@
 use mathlib.Core.Path.{◌≡◌, refl, sym, ◌∙◌}
 use mathlib.Core.Bool.{Bool, true, false, ◌&&◌}
 use mathlib.Core.List.{List, [], ◌∷◌}
-use Prim.Native.Nat.{ℕ, suc, ◌+◌, ◌-◌, ◌≤◌, ◌<◌}
+use Prim.Native.Nat.{ℕ, zero, suc, ◌+◌, ◌-◌, ◌≤◌, ◌<◌}
 use native.Mathlib.Numerals.{add-one}
 use native.Mathlib.Omega.{arith}
 use Rattle.std.specs.Prelude.{Ok, Err}
@@ -118,6 +118,14 @@ unfolding first_walk
 walk_on size n k s e =
     let p = then_on (graph_check size k s) (first_walk size n (suc k) (drop (stretch size s) s)) e in
     (graph_on size k s p.0, p.1)
+
+-- Whether the walk refuses does not hang on the number of its first graph.
+pub walk_on_any : (size : Field → ℕ) (n k j : ℕ) (s : List ℕ) → first_walk size n k s ≡ Ok tt → first_walk size n j s ≡ Ok tt
+unfolding first_walk
+walk_on_any size zero k j s e = rw (unless_on (eqb (length s) 0) (Cut k) (Ok tt) e).0
+walk_on_any size (suc n) k j s e =
+    let p = walk_on size n k s e in
+    rw (graph_passed size j s p.0, walk_on_any size n (suc k) (suc j) (drop (stretch size s) s) p.1)
 
 -- The first walk over the n graphs of s has come to graph k, and t is left: the walk over t decides.
 pub record Left (size : Field → ℕ) (n : ℕ) (s : List ℕ) (k : ℕ) (t : List ℕ) : Type 0 where

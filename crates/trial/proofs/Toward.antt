@@ -26,13 +26,19 @@ use Rattle.trial.specs.Trial.{Greatest, Allows, Restores, Moved, Fired, Run, Vis
 use Rattle.trial.proofs.Firing.{removed_all, removed_none, added_all, added_none}
 
 -- All of q still to come, and every actor ready.
-pub started_whole : {n rest : ℕ} {q copied filled : List ℕ} (left ready : List ℕ) → n ≤ length q → copied ≡ take n q → filled ≡ replicate n 1 → rest ≡ sum_to (vector q) n
-    → Started n q (copied ++ left) (filled ++ ready) rest
-started_whole {n} {q = q} left ready room copies fills total = record {
-  short = λ v l. rw copies (get_or-append (take n q) left 0 v (omega (arith, length-take-le n q room)) ∙ get_or-take n q v 0 l);
+pub started_filled : {n rest : ℕ} {q left filled : List ℕ} (ready : List ℕ) → ((v : ℕ) → v < n → get_or left v 0 ≡ get_or q v 0) → filled ≡ replicate n 1
+    → rest ≡ sum_to (vector q) n → Started n q left (filled ++ ready) rest
+started_filled {n} ready copies fills total = record {
+  short = copies;
   woken = λ v l. rw fills (get_or-append (replicate n 1) ready 0 v (omega (arith, length-replicate {A = ℕ} n 1)) ∙ get_or-replicate n v 1 0 l);
   sum = total;
 }
+
+-- The same, where all of q is copied at once.
+pub started_whole : {n rest : ℕ} {q copied filled : List ℕ} (left ready : List ℕ) → n ≤ length q → copied ≡ take n q → filled ≡ replicate n 1 → rest ≡ sum_to (vector q) n
+    → Started n q (copied ++ left) (filled ++ ready) rest
+started_whole {n} {q = q} left ready room copies fills total =
+    started_filled ready (λ v l. rw copies (get_or-append (take n q) left 0 v (omega (arith, length-take-le n q room)) ∙ get_or-take n q v 0 l)) fills total
 
 -- One actor more.
 pub started_turn : {n i rest next : ℕ} (q : List ℕ) → rest ≡ sum_to (vector q) i → i < n → next ≡ rest + get_or (take n q) i 0 → next ≡ sum_to (vector q) (i + 1)

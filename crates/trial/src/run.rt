@@ -195,11 +195,12 @@ fn start(actors: usize, q: &[u64], left: &mut [u64], ready: &mut [u64]) -> Firin
     requires { (actors ≤ engine_actors) × ((v : ℕ) → v < actors → get_or q.now v 0 ≤ max_repetition) × (actors ≤ length q.now) × (actors ≤ length left.old) × (actors ≤ length ready.old) }
     ensures { Started actors q.now left.new ready.new result.n }
 {
-    left[..actors].copy_from_slice(&q[..actors]);
     ready[..actors].fill(1);
     let mut rest = Firings::of(0);
-    for &n in &q[..actors] {
-        rest = rest.plus(Firings::of(n));
+    for v in 0..actors {
+        // One by one: a copy of the part at once would have the archive for C ask for memmove.
+        left[v] = q[v];
+        rest = rest.plus(Firings::of(q[v]));
     }
     rest
 }

@@ -14,7 +14,7 @@ fn next_bytes<R: Read>(alloc: Global, input: &mut R, n: u32) -> io::Result<Vec<u
     Ok(bytes)
 }
 
-// The next sheet, if one follows. A length above that of any sheet ends the input.
+// The next sheet, if one follows. A length above 65,535 ends the input.
 fn next_sheet<R: Read>(alloc: Global, input: &mut R) -> io::Result<Option<Vec<u8>>> {
     let head = next_bytes(alloc, input, 4)?;
     if head.len() < 4 {

@@ -2,10 +2,10 @@
 use borrow.Author.Rules.{rules}
 use Rattle.demand.specs.declared.rows.Actor.{Actor}
 use Rattle.shambrukit.specs.Calls.{skip_numbers}
-use Rattle.shambrukit.proofs.Answers.{fills_ready}
+use Rattle.shambrukit.proofs.Answers.{fills_ready, prepared_same}
 use Rattle.shambrukit.proofs.calls.skips.Goals as goal
 
 pub returns : goal.returns
 returns g c =
-    fills_ready _ _ c.in_ok-ready.ensures c.rows.ensures skip_numbers _ _
+    fills_ready _ _ (prepared_same g.F.Sheet.lines c.in_ok-ready.ready c.in_ok-form.ensures c.in_ok-ready.ensures) c.rows.ensures skip_numbers _ _
     (c.column_of.ensures (λ (a : Actor). a.skip.n) skip_numbers (λ a n e. search rules) (λ j heads actors i row. row.skips))
