@@ -18,11 +18,15 @@ use Rattle.ready.specs.Rows as stand
 use Rattle.ready.proofs.Same.{SameWork, Same, bounded_same, frame_same}
 use Rattle.shambrukit.specs.Held.{Stand, Framed}
 
+-- A number of a column, read from the rows.
+pub column_at : (rows xs : List ℕ) (m place v at : ℕ) → take m (drop place rows) ≡ xs → v < m → at ≡ place + v → get_or rows at 0 ≡ get_or xs v 0
+column_at rows xs m place v at e h p = rw (p, ← e, get_or-take m (drop place rows) v 0 h, get_or-drop place rows v 0)
+
 -- A number of an actor, read from the row.
-pub column_at :
+field_at :
     (field : Actor → ℕ) (actors : List Actor) (i m v : ℕ) {xs : List ℕ} → map field (stand.row_at actors i m) ≡ xs → v < m →
     field (get_or actors (32 * i + v) no_actor) ≡ get_or xs v (field no_actor)
-column_at field actors i m v e h =
+field_at field actors i m v e h =
     let xs : List Actor = stand.row_at actors i m in
     let x : get_or xs v no_actor ≡ get_or actors (32 * i + v) no_actor = get_or-take m (drop (32 * i) actors) v no_actor h ∙ get_or-drop (32 * i) actors v no_actor in
     ap field (sym x) ∙ sym (get_or-map field xs v no_actor) ∙ ap (λ (ys : List ℕ). get_or ys v (field no_actor)) e
@@ -37,9 +41,9 @@ module _ {js : List Judged} {heads : List Head} {actors : List Actor} (st : stan
         period = r.period;
         deadline = r.deadline;
         actors = r.count;
-        time = λ v l. column_at (λ (a : Actor). a.time.n) actors i m v r.times l;
-        repetition = λ v l. column_at (λ (a : Actor). a.repetition.n) actors i m v r.repetition l;
-        skip = λ v l. column_at (λ (a : Actor). a.skip.n) actors i m v r.skips l;
+        time = λ v l. field_at (λ (a : Actor). a.time.n) actors i m v r.times l;
+        repetition = λ v l. field_at (λ (a : Actor). a.repetition.n) actors i m v r.repetition l;
+        skip = λ v l. field_at (λ (a : Actor). a.skip.n) actors i m v r.skips l;
       }
 
   -- The judged graphs, and no others, are lent as demand asks.

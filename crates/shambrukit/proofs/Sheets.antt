@@ -36,7 +36,7 @@ wrote (Ok _) n few e =
     (refl, cc)
 wrote (Err r) n few e = absurd (let z : ◌≡◌ {A = ℕ} 0 1 = cc in omega arith)
 
--- What answers 1 to 5 refuse, the lines refuse: of a byte string, and of a list.
+-- What answers 1 to 5 refuse of a byte string, and 3 to 5 of a list, the lines refuse.
 pub sheet_refuses : (s : List ℕ) {a : Answer} {r : Refusal} → a ≡ check_sheet s → a ≡ Err r → sheet_lines s (refused r)
 unfolding sheet_lines
 sheet_refuses s e q = rw (sym e ∙ q) refl

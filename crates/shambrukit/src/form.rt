@@ -57,7 +57,7 @@ pub trait Sheet {
     // The lines 1 to 12 of the answer table, as they read for this form.
     ghost lines: { Self → Outcome → Type 0 };
 
-    // The refusals that need no memory: a call asks for them before it clears any.
+    // The refusals that need no memory: a call asks for them before it clears any. Not inlined below: each export for C would hold it.
     fn checked(self) -> Result<Self, Refusal>
     where
         Self: Sized,
@@ -75,6 +75,7 @@ impl<'a> Sheet for &'a [u8] {
     ghost lines = { λ s. sheet_lines s.now };
 
     // Answers 1 to 5.
+    #[inline(never)]
     fn checked(self) -> Result<Self, Refusal> {
         sheet::check::sheet(self)?;
         Ok(self)
@@ -91,6 +92,7 @@ impl<'a> Sheet for &'a [u32] {
     ghost lines = { λ l. list_lines l.now };
 
     // Answers 3 to 5.
+    #[inline(never)]
     fn checked(self) -> Result<Self, Refusal> {
         sheet::check::list(self)?;
         Ok(self)

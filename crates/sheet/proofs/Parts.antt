@@ -99,6 +99,10 @@ module _
             (filling_part (write part (drop at s)) (rw (parts_next, append_assoc) at p.filling) (rw (ei, eo, ← c) at e));
       }
 
+-- The actors' parts take what each takes.
+pub actors_total : {size : Field → ℕ} {f a c : ℕ} → Sizes size f a c → (n : ℕ) → total size (times n actor_part) ≡ a * n
+actors_total {size} {f} {a} {c} z n = rw (total_times size n actor_part, z.actor_is) (omega arith)
+
 -- What there is room for, where there is room for the graph at the start of s.
 module _ {size : Field → ℕ} {f a c : ℕ} (z : Sizes size f a c) (s : List ℕ) {room : ℕ} (h : stretch size s ≤ room) where
   graph_room : f + actor_count s * a + channel_count s * c ≤ room
@@ -125,8 +129,8 @@ module _ {size : Field → ℕ} {f a c : ℕ} (z : Sizes size f a c) (s : List �
 module _
     {A : Type 0} {write : List Field → List ℕ → List A} {from to : Field → ℕ} (form : Makes write from to) {f a c f' a' c' : ℕ}
     (z : Sizes from f a c) (z' : Sizes to f' a' c') where
-  pub actors_total : (n : ℕ) → total from (times n actor_part) ≡ n * a
-  actors_total n = rw (total_times from n actor_part, z.actor_is)
+  actors_take : (n : ℕ) → total from (times n actor_part) ≡ n * a
+  actors_take n = rw (total_times from n actor_part, z.actor_is)
 
   graph_whole :
       (n m : ℕ) (s : List ℕ) →
@@ -139,7 +143,7 @@ module _
         form.fixed_any n s,
         z.fixed_is n,
         form.append (times n actor_part) (times m (channel_part n)) (drop f s),
-        actors_total n,
+        actors_take n,
         drop-drop,
       )
 
